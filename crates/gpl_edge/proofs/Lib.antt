@@ -1,0 +1,3 @@
+pub mod FaultCounts
+mod Filled
+pub mod Pieces

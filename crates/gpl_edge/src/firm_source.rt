@@ -1,0 +1,60 @@
+//! A source that never fails.
+ghost use Rattle.std.specs.Prelude.{◌≡◌, ◌<◌, ◌≤◌, length, take, drop, min, Ok, Some, IfOk, OnErr};
+ghost use Rattle.std.specs.Io.{ReadsAtMost};
+ghost use Rattle.std.specs.Io.KnownBytes.{Consumes, IsAtEnd, Keeps};
+ghost use Rattle.gpl_edge.specs.Sources.{filled};
+
+use crate::ends::{Failed, Source};
+use crate::mem_source::copy_front;
+use std::marker::Model;
+
+/// Bytes in memory, which each read gives as far as the buffer goes. Contracts see the bytes that
+/// are left.
+#[derive(Drop)]
+pub struct FirmSource {
+    bytes: Vec<u8>,
+    at: usize,
+}
+
+impl Model for FirmSource {
+    ghost use Rattle.std.specs.Prelude.{ℕ, List, ◌≤◌, drop, length};
+
+    ghost Value = { List ℕ };
+
+    ghost view = { λ s. drop s.at s.bytes.items };
+
+    ghost invariant = { λ s. s.at ≤ length s.bytes.items };
+}
+
+impl FirmSource {
+    /// A source of these bytes.
+    pub fn new(bytes: Vec<u8>) -> FirmSource
+        ensures { result ≡ bytes.items }
+    {
+        FirmSource { bytes, at: 0 }
+    }
+}
+
+impl Source for FirmSource {
+    ghost left = { λ s. Some s };
+
+    ghost faults = { λ _. 0 };
+
+    fn read(&mut self, buf: &mut [u8]) -> Result<usize, Failed>
+        ensures within { ReadsAtMost result buf.new }
+        ensures gives { IfOk result (λ n. Consumes (Some self.old) (Some self.new) (take n buf.new)) }
+        ensures end { IfOk result (λ n. n ≡ 0 → 0 < length buf.new → IsAtEnd (Some self.new)) }
+        ensures stays { OnErr result (Keeps (Some self.old) (Some self.new)) }
+
+        // Beside the trait's: it never fails, and gives what the buffer has room for.
+        ensures count { result ≡ Ok (min (length buf.old) (length self.old)) }
+        ensures front { IfOk result (λ n. buf.new ≡ filled buf.old n self.old) }
+        ensures after { IfOk result (λ n. self.new ≡ drop n self.old) }
+    {
+        let left = &self.bytes[self.at..];
+        let n = buf.len().min(left.len());
+        copy_front(left, n, buf);
+        self.at += n;
+        Ok(n)
+    }
+}

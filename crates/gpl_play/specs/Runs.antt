@@ -1,0 +1,23 @@
+-- What a run reads and writes.
+use Rattle.std.specs.Prelude.{◌≡◌, ℕ, List, [], ◌∷◌, codes, Option, None, Some, IfSome, IsSome}
+use Rattle.std.specs.Io.KnownBytes.{Appends, IsAtEnd}
+use Rattle.trace_model.specs.Form.{trace_of}
+use Rattle.trace_model.specs.Output.{due_to}
+use Rattle.gpl_play.specs.Reads.{Reads}
+use Rattle.gpl_play.specs.Writes.{WritesFront}
+
+-- the words of a play
+abbrev pub IsPlay : List (List ℕ) → Type 0
+IsPlay words = words ≡ codes "play" ∷ []
+
+-- the text due to what was left to be read, which is a trace, was written, and nothing else
+abbrev pub WritesDue : Option (List ℕ) → Option (List ℕ) → Option (List ℕ) → Type 0
+WritesDue left before after = IfSome left (λ bytes. (text : List ℕ) × (due_to bytes ≡ Some text) × Appends before after text)
+
+-- a front of that text was written
+abbrev pub WritesDueFront : Option (List ℕ) → Option (List ℕ) → Option (List ℕ) → Type 0
+WritesDueFront left before after = IfSome left (λ bytes. (text : List ℕ) × (due_to bytes ≡ Some text) × WritesFront before after text)
+
+-- what was left to be read is no trace
+abbrev pub IsNoTrace : Option (List ℕ) → Type 0
+IsNoTrace left = IfSome left (λ bytes. trace_of bytes ≡ None)

@@ -1,0 +1,37 @@
+-- Worked modules: what the definition of the instruction list gives for them, by computing.
+use Rattle.std.proofs.Common.{◌≡◌, ℕ, List, [], ◌∷◌, ◌++◌, map, refl}
+use Rattle.std.specs.Prelude.{Ok, Err, drop}
+use Rattle.spirv_model.specs.declared.module.WordsFault.TheVariants.{BadHeader, ZeroLength, CutShort}
+use Rattle.spirv_model.specs.Module.{module_of, cut}
+
+-- a vertex module of one point at (128, 128, 0, 0)
+abbrev point_module : List ℕ
+point_module = 119734787 ∷ 65536 ∷ 0 ∷ 12 ∷ 0 ∷ 131089 ∷ 1 ∷ 196622 ∷ 0 ∷ 1 ∷ 393231 ∷ 0 ∷ 10 ∷ 1852399981 ∷ 0 ∷ 6 ∷ 262215 ∷ 6 ∷ 11 ∷ 0 ∷ 131091 ∷ 1 ∷ 196641 ∷ 2 ∷ 1 ∷ 262165 ∷ 3 ∷ 32 ∷ 1 ∷ 262167 ∷ 4 ∷ 3 ∷ 4 ∷ 262176 ∷ 5 ∷ 3 ∷ 4 ∷ 262203 ∷ 5 ∷ 6 ∷ 3 ∷ 262187 ∷ 3 ∷ 7 ∷ 0 ∷ 262187 ∷ 3 ∷ 8 ∷ 128 ∷ 458796 ∷ 4 ∷ 9 ∷ 8 ∷ 8 ∷ 7 ∷ 7 ∷ 327734 ∷ 1 ∷ 10 ∷ 0 ∷ 2 ∷ 131320 ∷ 11 ∷ 196670 ∷ 6 ∷ 9 ∷ 65789 ∷ 65592 ∷ []
+
+-- its eighteen instructions, by their opcodes
+pub point-opcodes : map (λ inst. inst.op) (cut (drop 5 point_module)).insts ≡ 17 ∷ 14 ∷ 15 ∷ 71 ∷ 19 ∷ 33 ∷ 21 ∷ 23 ∷ 32 ∷ 59 ∷ 43 ∷ 43 ∷ 44 ∷ 54 ∷ 248 ∷ 62 ∷ 253 ∷ 56 ∷ []
+point-opcodes = refl
+
+-- the header's bound, and the instructions of the cut
+pub point-module : module_of point_module ≡ Ok (record { bound = 12; insts = (cut (drop 5 point_module)).insts })
+point-module = refl
+
+-- a good header
+abbrev header : List ℕ
+header = 119734787 ∷ 65536 ∷ 0 ∷ 12 ∷ 0 ∷ []
+
+-- an instruction with word count 0
+pub zero-length : module_of (header ++ 17 ∷ []) ≡ Err ZeroLength
+zero-length = refl
+
+-- an instruction of two words, of which one is there
+pub cut-short : module_of (header ++ 131089 ∷ []) ≡ Err CutShort
+cut-short = refl
+
+-- an id bound above the limit
+pub bad-bound : module_of (119734787 ∷ 65536 ∷ 0 ∷ 4294967295 ∷ 0 ∷ []) ≡ Err BadHeader
+bad-bound = refl
+
+-- no words at all
+pub bad-empty : module_of [] ≡ Err BadHeader
+bad-empty = refl

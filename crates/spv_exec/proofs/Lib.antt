@@ -1,0 +1,5 @@
+pub mod BlockRuns
+pub mod BlockSteps
+pub mod CompositeWords
+pub mod Definitions
+pub mod Filled

@@ -1,0 +1,7 @@
+use Rattle.std.proofs.Common.{take}
+use Rattle.stage_model.specs.Machine.{defined_by}
+use Rattle.spv_exec.specs.Views.{Holds}
+use Rattle.spv_exec.proofs.values.defined_by.Given as goal
+
+abbrev pub invariant-loop-inst : goal.invariant-loop-inst
+invariant-loop-inst l = Holds l.values (defined_by (take l.inst-index l.insts))

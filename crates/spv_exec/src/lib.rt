@@ -1,0 +1,14 @@
+//! The interpreter: what a module's run leaves.
+#![tactic(auto)]
+
+mod block;
+mod run;
+mod values;
+
+pub use run::run_flat;
+pub use spirv_model::{Inst, Items};
+pub use stage_model::{Ended, Kind};
+pub use std::alloc::AllocError as Memory;
+
+#[cfg(test)]
+mod tests;

@@ -1,0 +1,102 @@
+ghost use Rattle.std.specs.Prelude.{◌≡◌, List, Some, IsSome, IfSome, IfOk, ◌<◌, length};
+ghost use Rattle.std.specs.Option.{option_map};
+ghost use Rattle.stage_model.specs.Stage as stage;
+ghost use Rattle.stage_model.specs.Machine as machine;
+ghost use Rattle.stage_model.specs.Value as value;
+ghost use Rattle.spv_exec.specs.Steps.{HoldsWords};
+
+use crate::Memory;
+use crate::block::run_block;
+use crate::values::defined_by;
+use spirv_model::{Inst, builtin, class, decoration, op};
+use stage_model::{COMPONENTS, Ended, Kind, LOCATIONS};
+use std::alloc::Global;
+use std::collections::BTreeMap;
+
+/// The outcome of a module's instructions, where the machine has one: it knows the instructions OpLabel, OpStore and
+/// OpReturn, with constants, their composites and variables.
+pub fn run_flat(alloc: Global, insts: &[Inst]) -> Result<Ended, Memory>
+    requires { IsSome (stage.stage insts.now) }
+    ensures { IfOk result (λ ended. option_map stage.ended_of (stage.stage insts.now) ≡ Some ended) }
+{
+    let Some(first) = first_label(insts) else {
+        unreachable!()
+    };
+    let values = defined_by(alloc, &insts[..first])?;
+    let Some(ran) = run_block(alloc, insts, first, &values)? else {
+        unreachable!()
+    };
+    Ok(Ended {
+        kind: Kind::Done,
+        position: components(
+            &ran.memory,
+            output_with(insts, decoration::BUILT_IN, builtin::POSITION),
+        ),
+        slots: slots(insts, &ran.memory),
+        work: ran.work,
+    })
+}
+
+fn first_label(insts: &[Inst]) -> Option<usize>
+    ensures found { result ≡ machine.first_label insts.now }
+    ensures within { IfSome result (λ first. first < length insts.now) }
+{
+    insts.iter().position(|inst| inst.op == op::LABEL)
+}
+
+/// By location, the first four words of the output variable there.
+fn slots(insts: &[Inst], memory: &BTreeMap<u32, [u32; 4]>) -> [[u32; 4]; 8]
+    ensures { (all : value.Memory) → HoldsWords memory.now all → result ≡ stage.slots_of insts.now all }
+{
+    let mut slots = [[0; COMPONENTS]; LOCATIONS];
+    for location in 0..LOCATIONS {
+        let variable = output_with(insts, decoration::LOCATION, location as u32);
+        slots[location] = components(memory, variable);
+    }
+    slots
+}
+
+/// The first four words of a variable; zeros where there is none.
+fn components(memory: &BTreeMap<u32, [u32; 4]>, variable: Option<u32>) -> [u32; 4]
+    ensures { (all : value.Memory) → HoldsWords memory.now all → result ≡ stage.components_of all variable }
+{
+    match variable {
+        Some(variable) => memory.get(&variable).copied().unwrap_or([0; COMPONENTS]),
+        None => [0; COMPONENTS],
+    }
+}
+
+/// The output variable that is decorated so.
+fn output_with(insts: &[Inst], decoration: u32, literal: u32) -> Option<u32>
+    ensures { result ≡ stage.output_with insts.now decoration literal }
+{
+    insts
+        .iter()
+        .filter_map(|inst| decorated(inst, decoration, literal))
+        .find(|id| is_output(insts, *id))
+}
+
+fn decorated(inst: &Inst, decoration: u32, literal: u32) -> Option<u32>
+    ensures { result ≡ stage.decorated_by decoration literal inst.now }
+{
+    if inst.op != op::DECORATE {
+        return None;
+    }
+    match inst.words.as_slice() {
+        [target, kind, value] if *kind == decoration && *value == literal => Some(*target),
+        _ => None,
+    }
+}
+
+fn is_output(insts: &[Inst], id: u32) -> bool
+    ensures { result ≡ stage.is_output insts.now id }
+{
+    insts.iter().any(|inst| makes_output(inst, id))
+}
+
+fn makes_output(inst: &Inst, id: u32) -> bool
+    ensures { result ≡ stage.is_output_variable id inst.now }
+{
+    inst.op == op::VARIABLE
+        && matches!(inst.words.as_slice(), [_, variable, class] if *variable == id && *class == class::OUTPUT)
+}

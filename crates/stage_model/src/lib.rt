@@ -1,0 +1,6 @@
+//! What a shader stage does: the machine that runs a module's instructions one by one, and the outcome of a run.
+#![tactic(auto)]
+
+mod outcome;
+
+pub use outcome::{COMPONENTS, Ended, Kind, LOCATIONS};

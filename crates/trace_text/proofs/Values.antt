@@ -1,0 +1,50 @@
+-- Digits read one by one.
+use Rattle.std.proofs.Common.{◌≡◌, ℕ, ◌+◌, ◌*◌, ◌^◌, ◌<◌, ◌≤◌, List, [], ◌∷◌, ◌++◌, length, drop, get_or, refl, ap, sym, ◌∙◌, arith, add-one, drop-cons, append_assoc, lit<, Option, None, Some}
+use Rattle.std.specs.Option.{option_and_then, option_map}
+use Rattle.std.proofs.Math.Nat.{pow-suc, pow-le-pow_right}
+use Rattle.trace_model.specs.Text.{hex_value, hex_onto, word_value, word_values}
+
+drop_first : (field : List ℕ) (i : ℕ) → i < length field → drop i field ≡ get_or field i 0 ∷ drop (i + 1) field
+drop_first field i h = rw (add-one, drop-cons field i 0) refl
+
+-- hexadecimal digits
+pub hex_next : (field : List ℕ) (i value digit : ℕ) → i < length field → Some digit ≡ hex_value (get_or field i 0)
+    → hex_onto (16 * value + digit) (drop (i + 1) field) ≡ hex_onto value (drop i field)
+hex_next field i value digit within h =
+    ap (option_and_then (λ (d : ℕ). hex_onto (16 * value + d) (drop (i + 1) field))) h ∙ ap (hex_onto value) (sym (drop_first field i within))
+
+pub hex_none : (field : List ℕ) (i value : ℕ) → i < length field → None ≡ hex_value (get_or field i 0) → hex_onto value (drop i field) ≡ None
+hex_none field i value within h =
+    ap (hex_onto value) (drop_first field i within)
+    ∙ ap (option_and_then (λ (d : ℕ). hex_onto (16 * value + d) (drop (i + 1) field))) (sym h)
+
+pub hex_small : (value digit i : ℕ) → value < 16 ^ i → digit < 16 → 16 * value + digit < 16 ^ (i + 1)
+hex_small value digit i low small = rw (add-one, pow-suc 16 i) (omega (arith, low, small))
+
+pub hex_fits : (value digit i : ℕ) → value < 16 ^ i → digit < 16 → i < 8 → 16 * value + digit < 2 ^ 32
+hex_fits value digit i low small within =
+    let s : 16 * value + digit < 16 ^ (i + 1) = hex_small value digit i low small in
+    let e : i + 1 ≤ 8 = omega arith in
+    let p : 16 ^ (i + 1) ≤ 16 ^ 8 = pow-le-pow_right (lit< tt) e in
+    omega (arith, s, p)
+
+-- words, behind those that were read
+abbrev pub words_after : List ℕ → Option (List ℕ) → Option (List ℕ)
+words_after words more = option_map (λ (ws : List ℕ). words ++ ws) more
+
+pub words_at_start : (more : Option (List ℕ)) → words_after [] more ≡ more
+words_at_start None = refl
+words_at_start (Some ws) = refl
+
+after_word : (words : List ℕ) (word : ℕ) (more : Option (List ℕ)) → words_after (words ++ word ∷ []) more ≡ words_after words (option_map (λ ws. word ∷ ws) more)
+after_word words word None = refl
+after_word words word (Some ws) = ap (λ (w : List ℕ). Some w) (append_assoc words (word ∷ []) ws)
+
+pub words_next : (words : List ℕ) (word : ℕ) (field : List ℕ) (fields : List (List ℕ)) → word_value field ≡ Some word
+    → words_after (words ++ word ∷ []) (word_values fields) ≡ words_after words (word_values (field ∷ fields))
+words_next words word field fields h =
+    after_word words word (word_values fields)
+    ∙ ap (λ (v : Option ℕ). words_after words (option_and_then (λ w. option_map (λ ws. w ∷ ws) (word_values fields)) v)) (sym h)
+
+pub words_none : (words : List ℕ) (field : List ℕ) (fields : List (List ℕ)) → word_value field ≡ None → words_after words (word_values (field ∷ fields)) ≡ None
+words_none words field fields h = ap (λ (v : Option ℕ). words_after words (option_and_then (λ w. option_map (λ ws. w ∷ ws) (word_values fields)) v)) h
