@@ -1,0 +1,5 @@
+pub mod Tally
+pub mod Takes
+pub mod ClosedRule
+pub mod LowRule
+pub mod Passes
