@@ -1,0 +1,78 @@
+//! The fragment shader library: the depth test.
+#![tactic(auto)]
+
+ghost use Rattle.std.specs.Prelude.{◌≡◌, ◌≤◌};
+ghost use Rattle.pixel_model.specs.Pixel.{passes_depth};
+
+pub use state_model::{FragmentPart, Iface};
+
+/// A fragment shader library: its part, and its module's interface.
+#[derive(Clone, Copy, Debug, PartialEq, Eq)]
+pub struct FragmentLib {
+    pub part: FragmentPart,
+    pub inputs: Iface,
+    pub outputs: Iface,
+}
+
+impl FragmentLib {
+    /// The library with this part, and with its module's inputs and outputs by location.
+    pub fn new(part: FragmentPart, inputs: Iface, outputs: Iface) -> FragmentLib
+        ensures part { result.part ≡ part }
+        ensures inputs { result.inputs ≡ inputs }
+        ensures outputs { result.outputs ≡ outputs }
+    {
+        FragmentLib {
+            part,
+            inputs,
+            outputs,
+        }
+    }
+}
+
+/// Whether the comparison `compare`, a `VkCompareOp` from 0 (NEVER) to 7 (ALWAYS), holds of the new and the old depth,
+/// both signed (Vulkan, "Depth Test").
+pub fn depth_passes(compare: u8, new: u32, old: u32) -> bool
+    requires { compare ≤ 7 }
+    ensures { result ≡ passes_depth compare new old }
+{
+    let new = new.cast_signed();
+    let old = old.cast_signed();
+    match compare {
+        0 => false,
+        1 => new < old,
+        2 => new == old,
+        3 => new <= old,
+        4 => new > old,
+        5 => new != old,
+        6 => new >= old,
+        _ => true,
+    }
+}
+
+#[cfg(test)]
+mod tests {
+    use super::*;
+
+    // Never, less, equal, less or equal, greater, not equal, greater or equal, always.
+    const OF_GREATEST_WITH_LEAST: [bool; 8] = [false, false, false, false, true, true, true, true];
+
+    const OF_LEAST_WITH_GREATEST: [bool; 8] = [false, true, false, true, false, true, false, true];
+
+    #[test]
+    fn depths_are_signed(rt: HostRuntime) {
+        for compare in 0u8..8 {
+            let greater = depth_passes(compare, 0x7fff_ffff, 0x8000_0000);
+            assert_eq!(rt;
+                greater,
+                OF_GREATEST_WITH_LEAST[usize::from(compare)],
+                "comparison {compare}"
+            );
+            let less = depth_passes(compare, 0x8000_0000, 0x7fff_ffff);
+            assert_eq!(rt;
+                less,
+                OF_LEAST_WITH_GREATEST[usize::from(compare)],
+                "comparison {compare}"
+            );
+        }
+    }
+}

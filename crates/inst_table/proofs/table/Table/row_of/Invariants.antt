@@ -1,0 +1,15 @@
+use Rattle.std.proofs.Common.{◌≡◌}
+use Rattle.inst_table.specs.Plays.{AreSound}
+use Rattle.inst_table.proofs.Chains.{OnChain}
+use Rattle.inst_table.proofs.table.Table.row_of.Given as goal
+
+abbrev pub invariant-loop-place : goal.invariant-loop-place
+invariant-loop-place g l = record {
+  table : l.seat.table_id ≡ l.fn.seat.table_id;
+  view : l.seat.me ≡ l.fn.seat.me;
+  chain : OnChain l.fn.seat.me.0.rows.linked l.key l.place;
+  sound : AreSound g.K.Asked.asked g.K.Asked.room l.fn.seat.me.0.rows.linked;
+}
+
+abbrev pub decreases-loop-place : goal.decreases-loop-place
+decreases-loop-place g l = l.place

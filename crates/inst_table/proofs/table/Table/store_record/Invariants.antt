@@ -1,0 +1,9 @@
+use Rattle.std.proofs.Common.{◌≡◌, take}
+use Rattle.inst_table.specs.Views.{with_units}
+use Rattle.inst_table.proofs.table.Table.store_record.Given as goal
+
+abbrev pub invariant-loop-at : goal.invariant-loop-at
+invariant-loop-at g l = record {
+  table : l.seat.table_id ≡ l.fn.seat.table_id;
+  view : l.seat.me ≡ (with_units (record l.fn.seat.me.0.units { partly = take l.at l.words }) l.fn.seat.me.0, l.fn.seat.me.1);
+}

@@ -1,0 +1,17 @@
+-- The load of an address word.
+use Rattle.std.specs.Prelude.{◌≡◌, ℕ, [], ◌∷◌, ◌++◌, Option, Some, None}
+use Rattle.inst_table.specs.Passes.{KnowsAddress}
+use Rattle.inst_table.specs.Lawful.{IsOneWay}
+use Rattle.inst_table.specs.declared.pass.Address.{Address}
+use Rattle.inst_table.specs.declared.view.View.{View}
+
+-- the word that was read
+abbrev pub word_of : Option Address → ℕ
+word_of None = 0
+word_of (Some address) = address.word
+
+-- One load of the unit's address word, which gave this word. It is the one that was known, and what the loads of an address gave goes one way.
+pub record Hears (v w : View) (unit word : ℕ) : Type 0 where
+  pub mine : w.mine ≡ v.mine ++ (unit, word) ∷ []
+  pub same : (known : ℕ) → KnowsAddress v unit known → word ≡ known
+  pub one_way : IsOneWay w.mine

@@ -1,0 +1,16 @@
+pub mod Bucket
+pub mod Layout
+pub mod Chain
+pub mod Subject
+pub mod Units
+pub mod Views
+pub mod Lawful
+pub mod Passes
+pub mod Plays
+pub mod Names
+pub mod Find
+pub mod Creations
+pub mod Heard
+pub mod Publications
+pub mod Closing
+pub mod Sample

@@ -1,0 +1,44 @@
+-- What a clause reads of a table and of its seats.
+use Rattle.std.specs.Prelude.{ℕ, List}
+use Rattle.atomic_table.specs.Seated.{TableId}
+use Rattle.inst_table.specs.declared.setup.Numbers.{Numbers}
+use Rattle.inst_table.specs.declared.table.Table.{Table}
+use Rattle.inst_table.specs.declared.pass.Pass.{Pass}
+use Rattle.inst_table.specs.declared.creator.Creator.{Creator}
+use Rattle.inst_table.specs.declared.publisher.Publisher.{Publisher}
+use Rattle.inst_table.specs.declared.view.Unit.{Unit}
+use Rattle.inst_table.specs.declared.view.View.{View}
+
+-- the record of a pass: what it knows
+abbrev pub view_of : Pass → View
+view_of pass = pass.seat.me.0
+
+-- the table that a pass belongs to
+abbrev pub home_of : Pass → TableId
+home_of pass = pass.seat.table_id
+
+abbrev pub creator_home_of : Creator → TableId
+creator_home_of creator = creator.seat.table_id
+
+-- the keys of the rows that the creator has made, in their order
+abbrev pub rows_of : Creator → List (List ℕ)
+rows_of creator = creator.seat.me.0.rows.linked
+
+abbrev pub publisher_home_of : Publisher → TableId
+publisher_home_of publisher = publisher.seat.table_id
+
+-- the units that the publisher has built, with their records, in their order
+abbrev pub units_of : Publisher → List Unit
+units_of publisher = publisher.seat.me.0.units.built
+
+module _ {F : Type 0} where
+  -- the identity of a table
+  abbrev pub id_of : Table F → TableId
+  id_of table = table.words.shared.table_id
+
+  -- the value and the numbers that it was made with
+  abbrev pub fit_of : Table F → F
+  fit_of table = table.words.shared.key.fit
+
+  abbrev pub numbers_of : Table F → Numbers
+  numbers_of table = table.words.shared.key.numbers

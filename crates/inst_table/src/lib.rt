@@ -1,0 +1,32 @@
+//! The instances of a pipeline manager: a shared map to which one thread adds rows, another one adds code, and which
+//! others read without a lock.
+#![tactic(auto)]
+
+mod closed;
+mod creator;
+mod layout;
+mod looks;
+mod pass;
+mod publisher;
+mod rows;
+mod rule;
+mod setup;
+mod table;
+#[cfg(test)]
+mod tests;
+mod units;
+mod view;
+
+pub use closed::{CloseParts, Closed, close};
+pub use creator::{Created, Creator};
+pub use pass::{Address, Find, Pass};
+pub use publisher::{Published, Publisher};
+pub use setup::{Fit, Numbers, Setup};
+pub use table::Table;
+pub use view::{Known, Rows, Unit, Units, View, Walk};
+
+/// The number of words of a key.
+pub const KEY_WORDS: usize = 56;
+
+/// The number of buckets.
+pub const BUCKETS: usize = 256;

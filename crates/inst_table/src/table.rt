@@ -1,0 +1,76 @@
+//! The table.
+ghost use Rattle.std.specs.Prelude.{◌≡◌, ◌+◌, ◌^◌, ◌<◌, [], IfOk};
+ghost use Rattle.inst_table.specs.Layout.{width};
+ghost use Rattle.inst_table.specs.Views.{blank};
+
+use crate::creator::Creator;
+use crate::layout::width;
+use crate::pass::Pass;
+use crate::publisher::Publisher;
+use crate::rule::{HandsOver, Law, Tells};
+use crate::setup::{Fit, Numbers, Setup};
+use crate::view::View;
+use std::alloc::{AllocError, Global};
+
+/// A shared table of rows, addresses and a heap.
+#[derive(Drop)]
+pub struct Table<F: Fit> {
+    pub(crate) words: atomic_table::Table<u8, View, Setup<F>, Law<F>, Global>,
+    fit: F,
+    pub(crate) numbers: Numbers,
+    ghost kept: { words.shared.key.fit ≡ fit },
+    ghost told: { words.shared.key.numbers ≡ numbers },
+    ghost sized: { words.shared.table_id.words ≡ width numbers },
+    ghost small: { (numbers.libraries + numbers.rows < 2 ^ 32) × (numbers.heap < 2 ^ 62) },
+}
+
+impl<F: Fit> Table<F> {
+    ghost use Rattle.inst_table.specs.Names.{id_of, fit_of, numbers_of, home_of, view_of, creator_home_of, rows_of, publisher_home_of, units_of};
+
+    /// A table with no row and no code, with room for so many rows and heap words, and its seats.
+    pub fn make(
+        alloc: Global,
+        fit: F,
+        rows: u32,
+        heap: u64,
+    ) -> Result<(Table<F>, Pass, Creator, Publisher), AllocError>
+        requires { (F.count fit + rows < 2 ^ 32) × (heap < 2 ^ 62) }
+        ensures table { IfOk result (λ made. (fit_of made.0 ≡ fit) × (numbers_of made.0 ≡ record { libraries = F.count fit; rows = rows; heap = heap })) }
+        ensures pass { IfOk result (λ made. (home_of made.1 ≡ id_of made.0) × (view_of made.1 ≡ blank)) }
+        ensures creator { IfOk result (λ made. (creator_home_of made.2 ≡ id_of made.0) × (rows_of made.2 ≡ [])) }
+        ensures publisher { IfOk result (λ made. (publisher_home_of made.3 ≡ id_of made.0) × (units_of made.3 ≡ [])) }
+    {
+        let libraries = fit.libraries();
+        let numbers = Numbers {
+            libraries,
+            rows,
+            heap,
+        };
+        let zeros = vec![in alloc; 0; width(&numbers)]?;
+        let setup = Setup { fit, numbers };
+        let (words, mut seat) = atomic_table::Table::of_words(alloc, &zeros, &setup)?;
+        let Setup { fit, numbers } = setup;
+        let creator = words.shared.split_seat::<HandsOver>(&mut seat);
+        let pass = words.shared.split_seat::<Tells>(&mut seat);
+        Ok((
+            Table {
+                words,
+                fit,
+                numbers,
+            },
+            Pass { seat: pass },
+            Creator {
+                seat: creator,
+                count: 0,
+            },
+            Publisher { seat, end: 0 },
+        ))
+    }
+
+    /// The value that `make` took.
+    pub fn fit(&self) -> &F
+        ensures { result.now ≡ fit_of self.now }
+    {
+        &self.fit
+    }
+}

@@ -1,0 +1,395 @@
+ghost use Rattle.std.specs.Prelude.{◌≡◌, ℕ, ◌+◌, ◌^◌, ◌<◌, ◌≤◌, ◌⊎◌, List, true, length, vec_len, Contains, IsTrue, IfOk, IfSome};
+ghost use Rattle.inst_table.specs.Bucket.{key_words};
+ghost use Rattle.inst_table.specs.Subject.{Subject};
+ghost use Rattle.inst_table.specs.Units.{IsRecord};
+ghost use Rattle.inst_table.specs.Passes.{KnowsRow, KnowsAddress};
+ghost use Rattle.inst_table.specs.Publications.{IfAddress};
+ghost use Rattle.inst_table.specs.Sample.{HasKey};
+ghost use Rattle.inst_table.specs.Names.{id_of, fit_of, numbers_of, home_of, view_of, creator_home_of, publisher_home_of};
+
+use crate::creator::{Created, Creator};
+use crate::pass::{Address, Find, Pass};
+use crate::publisher::{Published, Publisher};
+use crate::setup::Fit;
+use crate::table::Table;
+use crate::{KEY_WORDS, close};
+use std::alloc::{AllocError, Global};
+use std::test::Fail;
+use std::thread::{Threads, join};
+
+const LONGEST: usize = 70;
+
+// Some keys, no library, and any record up to a length.
+#[derive(Drop)]
+struct Keys {
+    keys: Vec<[u64; KEY_WORDS]>,
+}
+
+impl Fit for Keys {
+    ghost asked = { λ fit. fit.keys.items };
+
+    ghost fits = { λ fit unit words. length words ≤ 70 };
+
+    ghost longest = { λ fit unit. 70 };
+
+    ghost count = { λ fit. 0 };
+
+    fn libraries(&self) -> u32 {
+        0
+    }
+
+    ghost within = { λ fit unit words h. h };
+}
+
+// The key whose words are 0 but for one.
+fn key(at: usize, word: u64) -> [u64; KEY_WORDS]
+    requires { at < key_words }
+{
+    let mut key = [0; KEY_WORDS];
+    key[at] = word;
+    key
+}
+
+// Two keys of one bucket and one of another.
+fn three_keys(alloc: Global) -> Result<Keys, AllocError>
+    ensures { IfOk result (λ made. vec_len made.keys ≡ 3) }
+{
+    let mut keys = Vec::new(alloc);
+    keys.push(key(0, 1))?;
+    keys.push(key(1, 1))?;
+    keys.push(key(0, 2))?;
+    Ok(Keys { keys })
+}
+
+// A record of one module with so many words.
+fn record(alloc: Global, len: u32) -> Result<Vec<u32>, AllocError> {
+    let mut words = Vec::new(alloc);
+    words.push(len)?;
+    words.push(0)?;
+    for word in 0..len {
+        words.push(word)?;
+    }
+    Ok(words)
+}
+
+fn is_record(words: &[u32]) -> bool
+    ensures { result ≡ true → IsRecord words.now × (length words.now ≤ 70) }
+{
+    words.len() >= 2
+        && words.len() <= LONGEST
+        && words.len() as u64 == 2 + words[0] as u64 + words[1] as u64
+}
+
+impl Table<Keys> {
+    // The key of that number.
+    fn key_of(&self, at: usize) -> [u64; KEY_WORDS]
+        requires { at < vec_len (fit_of self.now).keys }
+        ensures among { Contains (fit_of self.now).keys.items result }
+    {
+        self.fit().keys[at]
+    }
+
+    // The row of a key, with a pass that knows it.
+    fn added(&self, creator: &mut Creator, key: &[u64; KEY_WORDS]) -> Result<(u32, Pass), u32>
+        requires table { creator_home_of creator.old ≡ id_of self.now }
+        requires asked { Contains (fit_of self.now).keys.items key.now }
+        ensures table { creator_home_of creator.new ≡ creator_home_of creator.old }
+        ensures note { IfOk result (λ r. (home_of r.1 ≡ id_of self.now) × HasKey (view_of r.1) r.0) }
+    {
+        match creator.create(self, key) {
+            Created::New { row, note } => Ok((row, note)),
+            Created::Old { row, note } => Ok((row, note)),
+            Created::Full(rows) => Err(rows),
+        }
+    }
+
+    fn put(&self, publisher: &mut Publisher, row: u32, note: Pass, words: &[u32]) -> Published
+        requires table { (publisher_home_of publisher.old ≡ id_of self.now) × (home_of note ≡ id_of self.now) × ((numbers_of self.now).libraries ≡ 0) }
+        requires row { HasKey (view_of note) row }
+        requires words { IsRecord words.now × (length words.now ≤ 70) }
+        ensures table { publisher_home_of publisher.new ≡ publisher_home_of publisher.old }
+        ensures note { IfAddress result (λ a note. home_of note ≡ id_of self.now) }
+    {
+        publisher.publish(self, row, note, words)
+    }
+
+    // The row of a key and the address of its unit.
+    fn seen(&self, pass: &mut Pass, key: &[u64; KEY_WORDS]) -> Result<(u32, Option<Address>), u32>
+        requires table { (home_of pass.old ≡ id_of self.now) × ((numbers_of self.now).libraries ≡ 0) }
+        ensures table { home_of pass.new ≡ home_of pass.old }
+        ensures row { IfOk result (λ r. HasKey (view_of pass.new) r.0) }
+        ensures address { IfOk result (λ r. IfSome r.1 (λ a. KnowsAddress (view_of pass.new) a.unit a.word)) }
+    {
+        match pass.find(self, key) {
+            Find::Hit(row) => Ok((row, pass.address(self, row))),
+            Find::Miss(rows) => Err(rows),
+        }
+    }
+
+    // Whether nothing that is read goes back, in so many rounds.
+    fn is_watched(&self, mut pass: Pass, rounds: u32) -> bool
+        requires table { (home_of pass ≡ id_of self.now) × ((numbers_of self.now).libraries ≡ 0) }
+        requires keys { vec_len (fit_of self.now).keys ≡ 3 }
+    {
+        let mut rows = [None; 3];
+        let mut addresses = [None; 3];
+        for _ in 0..rounds {
+            for at in 0..3 {
+                let before: (Option<u32>, Option<Address>) = (rows[at], addresses[at]);
+                match (before, self.seen(&mut pass, &self.key_of(at))) {
+                    ((None, _), Err(_)) => {}
+                    ((Some(_), _), Err(_)) => return false,
+                    ((old_row, old_address), Ok((row, address))) => {
+                        if old_row.is_some_and(|old| old != row)
+                            || old_address.is_some() && old_address != address
+                        {
+                            return false;
+                        }
+                        rows[at] = Some(row);
+                        addresses[at] = address;
+                    }
+                }
+            }
+        }
+        true
+    }
+
+    fn add_all(&self, mut creator: Creator) -> Creator
+        requires table { creator_home_of creator ≡ id_of self.now }
+        requires keys { vec_len (fit_of self.now).keys ≡ 3 }
+        ensures { creator_home_of result ≡ id_of self.now }
+    {
+        for at in 0..3 {
+            let _ = self.added(&mut creator, &self.key_of(at));
+        }
+        creator
+    }
+
+    // Publishes the record for each key, once its row is seen.
+    fn put_all(
+        &self,
+        mut publisher: Publisher,
+        mut pass: Pass,
+        words: &[u32],
+        tries: u32,
+    ) -> Publisher
+        requires table { (publisher_home_of publisher ≡ id_of self.now) × (home_of pass ≡ id_of self.now) × ((numbers_of self.now).libraries ≡ 0) }
+        requires keys { vec_len (fit_of self.now).keys ≡ 3 }
+        requires words { IsRecord words.now × (length words.now ≤ 70) }
+        ensures { publisher_home_of result ≡ id_of self.now }
+    {
+        for at in 0..3 {
+            for _ in 0..tries {
+                if let Ok((row, _)) = self.seen(&mut pass, &self.key_of(at)) {
+                    let note = pass.split(self);
+                    self.put(&mut publisher, row, note, words);
+                    break;
+                }
+            }
+        }
+        publisher
+    }
+}
+
+type Parts = (Table<Keys>, Pass, Creator, Publisher);
+
+fn make_parts(alloc: Global, rows: u32, heap: u64) -> Result<Parts, AllocError>
+    requires { heap < 2 ^ 30 }
+    ensures table { IfOk result (λ p. ((numbers_of p.0).libraries ≡ 0) × (vec_len (fit_of p.0).keys ≡ 3)) }
+    ensures seats { IfOk result (λ p. (home_of p.1 ≡ id_of p.0) × (creator_home_of p.2 ≡ id_of p.0) × (publisher_home_of p.3 ≡ id_of p.0)) }
+{
+    Table::make(alloc, three_keys(alloc)?, rows, heap)
+}
+
+#[test]
+fn rows_and_heap_are_full_exactly_at_their_ends(rt: HostRuntime) -> Result<(), Fail> {
+    let words = record(rt.alloc(), 68)?;
+    let fits = is_record(&words);
+    assert!(rt; fits);
+    let (table, _pass, mut creator, mut publisher) = make_parts(rt.alloc(), 1, 69)?;
+    let (first, second) = (table.key_of(0), table.key_of(1));
+    let Ok((row, note)) = table.added(&mut creator, &first) else {
+        panic!(rt; "no room")
+    };
+    assert_eq!(rt; row, 0);
+    assert!(rt; matches!(table.added(&mut creator, &second), Err(1)));
+    let answer = table.put(&mut publisher, row, note, &words);
+    assert!(rt; matches!(answer, Published::HeapFull(0)));
+    Ok(())
+}
+
+#[test]
+fn one_record_is_accepted(rt: HostRuntime) -> Result<(), Fail> {
+    let words = record(rt.alloc(), 68)?;
+    let fits = is_record(&words);
+    assert!(rt; fits);
+    let (table, mut pass, mut creator, mut publisher) = make_parts(rt.alloc(), 1, 70)?;
+    let key = table.key_of(0);
+    let Ok((row, note)) = table.added(&mut creator, &key) else {
+        panic!(rt; "no room")
+    };
+    let Published::Accepted { address, note } = table.put(&mut publisher, row, note, &words) else {
+        panic!(rt; "not accepted")
+    };
+    assert_eq!(rt; address, Address { unit: 0, word: 1 });
+    pass.join(&table, note);
+    let Ok((row, note)) = table.added(&mut creator, &key) else {
+        panic!(rt; "no room")
+    };
+    let Published::Already { address, note: _ } = table.put(&mut publisher, row, note, &words)
+    else {
+        panic!(rt; "accepted twice")
+    };
+    assert_eq!(rt; address, Address { unit: 0, word: 1 });
+    let Ok((row, Some(address))) = table.seen(&mut pass, &key) else {
+        panic!(rt; "not seen")
+    };
+    let fetched = pass.fetch(rt.alloc(), &table, address)?;
+    assert!(rt; row == 0 && fetched.len() == 70);
+    assert!(rt; fetched.get(0) == Some(&68) && fetched.get(1) == Some(&0));
+    let Ok(closed) = close(rt.alloc(), table, creator, publisher, pass) else {
+        panic!(rt; "no memory")
+    };
+    assert!(rt; closed.rows.len() == 1 && closed.units.len() == 1);
+    assert!(rt;
+        closed
+            .rows
+            .get(0)
+            .is_some_and(|row| row[0] == 1 && row[1] == 0)
+    );
+    Ok(())
+}
+
+#[test]
+fn a_key_is_found_along_the_chain_of_its_bucket(rt: HostRuntime) -> Result<(), Fail> {
+    let (table, mut pass, mut creator, _publisher) = make_parts(rt.alloc(), 3, 0)?;
+    let (first, second, third) = (table.key_of(0), table.key_of(1), table.key_of(2));
+    let (one, two) = (
+        table.added(&mut creator, &first).is_ok(),
+        table.added(&mut creator, &second).is_ok(),
+    );
+    assert!(rt; one && two);
+    let found = pass.find(&table, &second);
+    assert_eq!(rt; found, Find::Hit(1));
+    let found = pass.find(&table, &first);
+    assert_eq!(rt; found, Find::Hit(0));
+    let found = pass.find(&table, &third);
+    assert_eq!(rt; found, Find::Miss(2));
+    Ok(())
+}
+
+// Two readers, in two threads.
+fn two_watch<R: Threads>(rt: &R, table: &Table<Keys>, one: Pass, other: Pass, rounds: u32) -> bool
+    requires table { ((numbers_of table.now).libraries ≡ 0) × (vec_len (fit_of table.now).keys ≡ 3) }
+    requires passes { (home_of one ≡ id_of table.now) × (home_of other ≡ id_of table.now) }
+{
+    let (a, b) = join(
+        rt,
+        move || table.is_watched(one, rounds),
+        move || table.is_watched(other, rounds),
+    );
+    a && b
+}
+
+// The creator and the publisher, in two threads.
+fn two_write<R: Threads>(
+    rt: &R,
+    table: &Table<Keys>,
+    creator: Creator,
+    publisher: Publisher,
+    pass: Pass,
+    words: &[u32],
+) -> (Creator, Publisher)
+    requires table { ((numbers_of table.now).libraries ≡ 0) × (vec_len (fit_of table.now).keys ≡ 3) }
+    requires seats { (creator_home_of creator ≡ id_of table.now) × (publisher_home_of publisher ≡ id_of table.now) × (home_of pass ≡ id_of table.now) }
+    requires words { IsRecord words.now × (length words.now ≤ 70) }
+    ensures { (creator_home_of result.0 ≡ id_of table.now) × (publisher_home_of result.1 ≡ id_of table.now) }
+{
+    join(
+        rt,
+        move || table.add_all(creator),
+        move || table.put_all(publisher, pass, words, TRIES),
+    )
+}
+
+// Two readers beside the creator and the publisher.
+fn four_work<R: Threads + Sync>(
+    rt: &R,
+    table: &Table<Keys>,
+    one: Pass,
+    other: Pass,
+    creator: Creator,
+    publisher: Publisher,
+    pass: Pass,
+    words: &[u32],
+) -> (bool, (Creator, Publisher))
+    requires table { ((numbers_of table.now).libraries ≡ 0) × (vec_len (fit_of table.now).keys ≡ 3) }
+    requires readers { (home_of one ≡ id_of table.now) × (home_of other ≡ id_of table.now) }
+    requires seats { (creator_home_of creator ≡ id_of table.now) × (publisher_home_of publisher ≡ id_of table.now) × (home_of pass ≡ id_of table.now) }
+    requires words { IsRecord words.now × (length words.now ≤ 70) }
+    ensures { (creator_home_of result.1.0 ≡ id_of table.now) × (publisher_home_of result.1.1 ≡ id_of table.now) }
+{
+    join(
+        rt,
+        move || two_watch(rt, table, one, other, ROUNDS),
+        move || two_write(rt, table, creator, publisher, pass, words),
+    )
+}
+
+// Four readers beside the creator and the publisher.
+fn six_work<R: Threads + Sync>(
+    rt: &R,
+    table: &Table<Keys>,
+    first: (Pass, Pass),
+    three: Pass,
+    four: Pass,
+    creator: Creator,
+    publisher: Publisher,
+    pass: Pass,
+    words: &[u32],
+) -> (bool, (bool, (Creator, Publisher)))
+    requires table { ((numbers_of table.now).libraries ≡ 0) × (vec_len (fit_of table.now).keys ≡ 3) }
+    requires first { (home_of first.0 ≡ id_of table.now) × (home_of first.1 ≡ id_of table.now) }
+    requires second { (home_of three ≡ id_of table.now) × (home_of four ≡ id_of table.now) }
+    requires seats { (creator_home_of creator ≡ id_of table.now) × (publisher_home_of publisher ≡ id_of table.now) × (home_of pass ≡ id_of table.now) }
+    requires words { IsRecord words.now × (length words.now ≤ 70) }
+    ensures { (creator_home_of result.1.1.0 ≡ id_of table.now) × (publisher_home_of result.1.1.1 ≡ id_of table.now) }
+{
+    let (one, other) = first;
+    join(
+        rt,
+        move || two_watch(rt, table, one, other, ROUNDS),
+        move || -> (bool, (Creator, Publisher))
+            requires table { ((numbers_of table.now).libraries ≡ 0) × (vec_len (fit_of table.now).keys ≡ 3) }
+            requires readers { (home_of three ≡ id_of table.now) × (home_of four ≡ id_of table.now) }
+            requires seats { (creator_home_of creator ≡ id_of table.now) × (publisher_home_of publisher ≡ id_of table.now) × (home_of pass ≡ id_of table.now) }
+            requires words { IsRecord words.now × (length words.now ≤ 70) }
+            ensures { (creator_home_of result.1.0 ≡ id_of table.entry.now) × (publisher_home_of result.1.1 ≡ id_of table.entry.now) }
+        { four_work(rt, table, three, four, creator, publisher, pass, words) },
+    )
+}
+
+const ROUNDS: u32 = 20_000;
+
+const TRIES: u32 = 1_000_000;
+
+#[test]
+fn nothing_that_is_read_goes_back(rt: HostRuntime) -> Result<(), Fail> {
+    let words = record(rt.alloc(), 68)?;
+    let fits = is_record(&words);
+    assert!(rt; fits);
+    let (table, mut pass, creator, publisher) = make_parts(rt.alloc(), 3, 210)?;
+    let first = (pass.split(&table), pass.split(&table));
+    let three = pass.split(&table);
+    let four = pass.split(&table);
+    let own = pass.split(&table);
+    let (one, (other, (creator, publisher))) = six_work(
+        &rt, &table, first, three, four, creator, publisher, own, &words,
+    );
+    assert!(rt; one && other);
+    let Ok(closed) = close(rt.alloc(), table, creator, publisher, pass) else {
+        panic!(rt; "no memory")
+    };
+    assert!(rt; closed.rows.len() == 3 && closed.units.len() == 3);
+    Ok(())
+}

@@ -1,0 +1,2 @@
+pub mod Accords
+pub mod Lists

@@ -1,0 +1,3 @@
+pub mod Libs
+pub mod One
+pub mod Parts

@@ -1,0 +1,58 @@
+//! Which pipeline libraries link, and the state that they make.
+#![tactic(auto)]
+
+pub mod counts;
+pub mod one;
+
+ghost use Rattle.std.specs.Prelude.{◌≡◌, false, None, Some, MatchResult};
+ghost use Rattle.state_model.specs.Lawful.{IsLawful};
+ghost use Rattle.state_model.specs.Link.{refuses, linked_state};
+
+pub use fragment_lib::FragmentLib;
+pub use output_lib::OutputLib;
+pub use prerast_lib::PrerastLib;
+pub use state_model::{Rule, State};
+pub use vertex_lib::VertexLib;
+
+/// The libraries that a pipeline is given, by subset.
+#[derive(Debug, Drop)]
+pub struct Libs {
+    pub vertex: Vec<VertexLib>,
+    pub prerast: Vec<PrerastLib>,
+    pub fragment: Vec<FragmentLib>,
+    pub output: Vec<OutputLib>,
+}
+
+ghost use Rattle.link_rules.specs.Libs.{libraries};
+ghost use Rattle.link_rules.specs.Parts.{HoldsLawfulParts};
+
+impl Libs {
+    /// The state that linked libraries make: each subset's part.
+    pub fn state(&self) -> State
+        requires links { refuses (libraries self.now) false ≡ None }
+        requires parts { HoldsLawfulParts (libraries self.now) }
+        ensures parts { linked_state (libraries self.now) ≡ Some result }
+        ensures lawful { IsLawful result }
+    {
+        one::state_of_one(&counts::one_of(self))
+    }
+}
+
+/// Whether the libraries link, or the first rule, by number, that fails. L10 counts for an optimized link alone.
+#[tactic(auto, unfolding(state_model::specs::Link::refuses, state_model::specs::Link::fails))]
+pub fn link(libs: &Libs, optimise: bool) -> Result<(), Rule>
+    ensures { MatchResult result
+        (λ _. refuses (libraries libs.now) optimise ≡ None)
+        (λ rule. refuses (libraries libs.now) optimise ≡ Some rule) }
+{
+    if counts::lacks_subset(libs) {
+        return Err(Rule::L1);
+    }
+    if counts::repeats_subset(libs) {
+        return Err(Rule::L2);
+    }
+    one::link_contents(&counts::one_of(libs), optimise)
+}
+
+#[cfg(test)]
+mod tests;

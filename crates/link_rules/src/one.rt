@@ -1,0 +1,242 @@
+//! The rules on what the libraries hold, where there is one of each subset.
+ghost use Rattle.std.specs.Prelude.{◌≡◌, None, Some, MatchResult, ◌<◌};
+ghost use Rattle.state_model.specs.Lawful.{present_at};
+ghost use Rattle.state_model.specs.Link.{refuses_contents, has_unused_subset, independence_differs, layouts_disagree, view_masks_differ, multisample_differs, unfed_input, misfed_input, lacks_retained, misfits, lacks_attribute, misfits_output, disagree, differ_sets, clash, some_set, differ_multisample};
+
+use fragment_lib::FragmentLib;
+use output_lib::OutputLib;
+use prerast_lib::PrerastLib;
+use state_model::{Attribute, LOCATIONS, Layout, Multisample, Rule, SETS, Slot, State};
+use vertex_lib::VertexLib;
+
+/// One library of each subset; fragment and output libraries may be absent.
+#[derive(Clone, Copy, Debug)]
+pub struct One {
+    pub vertex: VertexLib,
+    pub prerast: PrerastLib,
+    pub fragment: Option<FragmentLib>,
+    pub output: Option<OutputLib>,
+}
+
+ghost use Rattle.link_rules.specs.One.{libraries_of_one, state_of_one};
+
+/// The state that they make.
+pub fn state_of_one(one: &One) -> State
+    ensures { result ≡ state_of_one one.now }
+{
+    State {
+        vertex: one.vertex.part,
+        prerast: one.prerast.part,
+        fragment: one.fragment.map(|f| f.part),
+        output: one.output.map(|o| o.part),
+    }
+}
+
+/// The first rule that fails, from L3 on.
+#[tactic(auto, unfolding(state_model::specs::Link::refuses_contents, state_model::specs::Link::fails, state_model::specs::Link::fails_at))]
+pub fn link_contents(one: &One, optimise: bool) -> Result<(), Rule>
+    ensures { MatchResult result
+        (λ _. refuses_contents (libraries_of_one one.now) optimise ≡ None)
+        (λ rule. refuses_contents (libraries_of_one one.now) optimise ≡ Some rule) }
+{
+    if has_unused_subset(one) {
+        return Err(Rule::L3);
+    }
+    if independence_differs(one) {
+        return Err(Rule::L4);
+    }
+    if layouts_disagree(one) {
+        return Err(Rule::L5);
+    }
+    if view_masks_differ(one) {
+        return Err(Rule::L6);
+    }
+    if multisample_differs(one) {
+        return Err(Rule::L7);
+    }
+    if let Some(location) = unfed_input(one) {
+        return Err(Rule::L8(location));
+    }
+    if let Some(location) = misfed_input(one) {
+        return Err(Rule::L9(location));
+    }
+    if optimise && lacks_retained(one) {
+        return Err(Rule::L10);
+    }
+    Ok(())
+}
+
+// The value at that place, where there is one.
+fn present_at<T: Copy>(xs: &[Option<T>], at: usize) -> Option<T>
+    ensures { result ≡ present_at xs.now at }
+{
+    xs.get(at).copied().flatten()
+}
+
+#[tactic(auto, unfolding(state_model::specs::Link::has_unused_subset))]
+fn has_unused_subset(one: &One) -> bool
+    ensures { result ≡ has_unused_subset (libraries_of_one one.now) }
+{
+    one.prerast.part.discard && (one.fragment.is_some() || one.output.is_some())
+}
+
+#[tactic(auto, unfolding(state_model::specs::Link::independence_differs))]
+fn independence_differs(one: &One) -> bool
+    ensures { result ≡ independence_differs (libraries_of_one one.now) }
+{
+    match &one.fragment {
+        Some(fragment) => fragment.part.layout.independent != one.prerast.part.layout.independent,
+        None => false,
+    }
+}
+
+#[tactic(auto, unfolding(state_model::specs::Link::layouts_disagree))]
+fn layouts_disagree(one: &One) -> bool
+    ensures { result ≡ layouts_disagree (libraries_of_one one.now) }
+{
+    match &one.fragment {
+        Some(fragment) => disagree(&fragment.part.layout, &one.prerast.part.layout),
+        None => false,
+    }
+}
+
+#[tactic(auto, unfolding(state_model::specs::Link::disagree))]
+fn disagree(a: &Layout, b: &Layout) -> bool
+    ensures { result ≡ disagree a.now b.now }
+{
+    match (a.independent, b.independent) {
+        (false, false) => a.push_words != b.push_words || some_set_differs(a, b),
+        (true, true) => a.push_words != b.push_words || some_set_clashes(a, b),
+        _ => false,
+    }
+}
+
+fn some_set_differs(a: &Layout, b: &Layout) -> bool
+    ensures { result ≡ some_set differ_sets a.now b.now }
+{
+    (0..SETS).any(|set| differ_sets(present_at(&a.sets, set), present_at(&b.sets, set)))
+}
+
+fn some_set_clashes(a: &Layout, b: &Layout) -> bool
+    ensures { result ≡ some_set clash a.now b.now }
+{
+    (0..SETS).any(|set| clash(present_at(&a.sets, set), present_at(&b.sets, set)))
+}
+
+fn differ_sets(a: Option<u8>, b: Option<u8>) -> bool
+    ensures { result ≡ differ_sets a b }
+{
+    match (a, b) {
+        (Some(a), Some(b)) => a != b,
+        (None, None) => false,
+        _ => true,
+    }
+}
+
+fn clash(a: Option<u8>, b: Option<u8>) -> bool
+    ensures { result ≡ clash a b }
+{
+    match (a, b) {
+        (Some(a), Some(b)) => a != b,
+        _ => false,
+    }
+}
+
+#[tactic(auto, unfolding(state_model::specs::Link::view_masks_differ))]
+fn view_masks_differ(one: &One) -> bool
+    ensures { result ≡ view_masks_differ (libraries_of_one one.now) }
+{
+    let mask = one.prerast.part.view_mask;
+    one.fragment.is_some_and(|f| f.part.view_mask != mask)
+        || one.output.is_some_and(|o| o.part.view_mask != mask)
+}
+
+#[tactic(auto, unfolding(state_model::specs::Link::multisample_differs))]
+fn multisample_differs(one: &One) -> bool
+    ensures { result ≡ multisample_differs (libraries_of_one one.now) }
+{
+    match (&one.fragment, &one.output) {
+        (Some(fragment), Some(output)) => differ_multisample(
+            fragment.part.multisample,
+            output.part.multisample,
+        ),
+        _ => false,
+    }
+}
+
+fn differ_multisample(a: Option<Multisample>, b: Multisample) -> bool
+    ensures { result ≡ differ_multisample a b }
+{
+    match a {
+        Some(a) => a.samples != b.samples || a.mask != b.mask,
+        None => false,
+    }
+}
+
+#[tactic(auto, unfolding(state_model::specs::Link::unfed_input))]
+fn unfed_input(one: &One) -> Option<u8>
+    ensures { result ≡ unfed_input (libraries_of_one one.now) }
+{
+    let inputs = &one.prerast.inputs.slots;
+    let attributes = &one.vertex.part.attributes;
+    (0..LOCATIONS as u8).find(|l| lacks_attribute(
+        present_at(inputs, usize::from(*l)),
+        present_at(attributes, usize::from(*l)),
+    ))
+}
+
+fn lacks_attribute(input: Option<Slot>, given: Option<Attribute>) -> bool
+    ensures { result ≡ lacks_attribute input given }
+{
+    match (input, given) {
+        (Some(input), Some(a)) => misfits(
+            input,
+            Slot {
+                comps: a.comps,
+                signed: a.signed,
+            },
+        ),
+        (Some(_), None) => true,
+        (None, _) => false,
+    }
+}
+
+fn misfits(input: Slot, given: Slot) -> bool
+    ensures { result ≡ misfits input given }
+{
+    input.signed != given.signed || given.comps < input.comps
+}
+
+#[tactic(auto, unfolding(state_model::specs::Link::misfed_input))]
+fn misfed_input(one: &One) -> Option<u8>
+    ensures { result ≡ misfed_input (libraries_of_one one.now) }
+{
+    let Some(fragment) = &one.fragment else {
+        return None;
+    };
+    let inputs = &fragment.inputs.slots;
+    let outputs = &one.prerast.outputs.slots;
+    (0..LOCATIONS as u8).find(|l| misfits_output(
+        present_at(inputs, usize::from(*l)),
+        present_at(outputs, usize::from(*l)),
+    ))
+}
+
+fn misfits_output(input: Option<Slot>, given: Option<Slot>) -> bool
+    ensures { result ≡ misfits_output input given }
+{
+    match (input, given) {
+        (Some(input), Some(given)) => misfits(input, given),
+        _ => false,
+    }
+}
+
+#[tactic(auto, unfolding(state_model::specs::Link::lacks_retained))]
+fn lacks_retained(one: &One) -> bool
+    ensures { result ≡ lacks_retained (libraries_of_one one.now) }
+{
+    !one.vertex.part.retain
+        || !one.prerast.part.retain
+        || one.fragment.is_some_and(|f| !f.part.retain)
+        || one.output.is_some_and(|o| !o.part.retain)
+}

@@ -1,0 +1,125 @@
+//! The fragment output library: logic operations and write masks.
+#![tactic(auto)]
+
+ghost use Rattle.std.specs.Prelude.{◌≡◌, ◌≤◌};
+ghost use Rattle.std.specs.Option.{ForSome};
+ghost use Rattle.pixel_model.specs.Pixel.{logic_result, stored_pixel, written};
+
+use state_model::COMPONENTS;
+pub use state_model::OutputPart;
+
+/// A fragment output interface library.
+#[derive(Clone, Copy, Debug, PartialEq, Eq)]
+pub struct OutputLib {
+    pub part: OutputPart,
+}
+
+impl OutputLib {
+    /// The library with this part.
+    pub fn new(part: OutputPart) -> OutputLib
+        ensures { result.part ≡ part }
+    {
+        OutputLib { part }
+    }
+}
+
+/// The logic operation `op`, a `VkLogicOp` from 0 (CLEAR) to 15 (SET), of the source `s` and the destination `d`
+/// (Vulkan, "Logical Operations").
+pub fn logic(op: u8, s: u32, d: u32) -> u32
+    requires { op ≤ 15 }
+    ensures { result ≡ logic_result op s d }
+{
+    match op {
+        0 => 0,
+        1 => s & d,
+        2 => s & !d,
+        3 => s,
+        4 => !s & d,
+        5 => d,
+        6 => s ^ d,
+        7 => s | d,
+        8 => !(s | d),
+        9 => !(s ^ d),
+        10 => !d,
+        11 => s | !d,
+        12 => !s,
+        13 => !s | d,
+        14 => !(s & d),
+        _ => u32::MAX,
+    }
+}
+
+// What is written for one component: without an operation the source.
+fn written_word(op: Option<u8>, s: u32, d: u32) -> u32
+    requires { ForSome op (λ op. op ≤ 15) }
+    ensures { result ≡ written op s d }
+{
+    match op {
+        Some(op) => logic(op, s, d),
+        None => s,
+    }
+}
+
+/// The pixel `d` after the write of `s`: component i changes where bit i of `mask` is set (1 R, 2 G, 4 B, 8 A). No `op`
+/// is COPY.
+pub fn store_pixel(
+    op: Option<u8>,
+    mask: u8,
+    s: [u32; COMPONENTS],
+    d: [u32; COMPONENTS],
+) -> [u32; COMPONENTS]
+    requires { ForSome op (λ op. op ≤ 15) }
+    ensures { result ≡ stored_pixel op mask s d }
+{
+    let mut pixel = [0; COMPONENTS];
+    for i in 0..COMPONENTS {
+        pixel[i] = if (mask >> i) % 2 == 1 {
+            written_word(op, s[i], d[i])
+        } else {
+            d[i]
+        };
+    }
+    pixel
+}
+
+#[cfg(test)]
+mod tests {
+    use super::*;
+
+    // Of 1100 and 1010, in the order of `VkLogicOp`.
+    const RESULTS: [u32; 16] = [
+        0,
+        0b1000,
+        0b0100,
+        0b1100,
+        0b0010,
+        0b1010,
+        0b0110,
+        0b1110,
+        0xffff_fff1,
+        0xffff_fff9,
+        0xffff_fff5,
+        0xffff_fffd,
+        0xffff_fff3,
+        0xffff_fffb,
+        0xffff_fff7,
+        0xffff_ffff,
+    ];
+
+    #[test]
+    fn each_logic_operation(rt: HostRuntime) {
+        for op in 0u8..16 {
+            assert_eq!(rt;
+                logic(op, 0b1100, 0b1010),
+                RESULTS[usize::from(op)],
+                "operation {op}"
+            );
+        }
+    }
+
+    #[test]
+    fn copies_under_a_mask(rt: HostRuntime) {
+        assert_eq!(rt; store_pixel(Some(3), 5, [1, 2, 3, 4], [9; 4]), [1, 9, 3, 9]);
+        assert_eq!(rt; store_pixel(None, 15, [1, 2, 3, 4], [9; 4]), [1, 2, 3, 4]);
+    }
+}

@@ -1,0 +1,5 @@
+pub mod Assembly
+pub mod Coverage
+pub mod Fetch
+pub mod Pixel
+pub mod Word

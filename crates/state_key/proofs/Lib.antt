@@ -1,0 +1,11 @@
+pub mod CanonicalForm
+pub mod CanonicalState
+pub mod Digits
+pub mod EntryOrder
+pub mod FieldReads
+pub mod KeptEntries
+pub mod KeyBack
+pub mod Order
+pub mod Packing
+pub mod RoundTrip
+pub mod Sections

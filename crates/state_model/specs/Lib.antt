@@ -1,0 +1,4 @@
+pub mod Canonical
+pub mod Key
+pub mod Lawful
+pub mod Link

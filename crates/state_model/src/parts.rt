@@ -1,0 +1,148 @@
+use crate::{ATTACHMENTS, BINDINGS, ENTRIES, LOCATIONS, SETS};
+
+/// `VkPrimitiveTopology`, point list or triangle list.
+#[derive(Clone, Copy, Debug, PartialEq, Eq)]
+pub enum Topology {
+    Points,
+    Triangles,
+}
+
+/// One vertex buffer binding: how far apart the vertices, or the instances, lie in it.
+#[derive(Clone, Copy, Debug, PartialEq, Eq)]
+pub struct VertexBinding {
+    /// In 32-bit words, 0 to 1024.
+    pub stride: u32,
+    /// Whether it steps by instance and not by vertex (`VK_VERTEX_INPUT_RATE_INSTANCE`).
+    pub per_instance: bool,
+}
+
+/// What one location of the vertex shader reads.
+#[derive(Clone, Copy, Debug, PartialEq, Eq)]
+pub struct Attribute {
+    /// The vertex buffer binding, 0 to 3.
+    pub binding: u8,
+    /// Components, 1 to 4.
+    pub comps: u8,
+    pub signed: bool,
+    /// In 32-bit words, 0 to 1023.
+    pub offset: u32,
+}
+
+/// A pipeline layout: push constants and descriptor sets.
+#[derive(Clone, Copy, Debug, PartialEq, Eq)]
+pub struct Layout {
+    /// `VK_PIPELINE_LAYOUT_CREATE_INDEPENDENT_SETS_BIT_EXT`.
+    pub independent: bool,
+    /// 32-bit words of push constants, 0 to 32.
+    pub push_words: u8,
+    /// For each set that is defined, the mask of its bindings.
+    pub sets: [Option<u8>; SETS],
+}
+
+/// A specialization constant's value.
+#[derive(Clone, Copy, Debug, PartialEq, Eq)]
+pub struct Entry {
+    /// The `SpecId`.
+    pub id: u32,
+    pub value: u32,
+}
+
+/// The specialization constants of one stage.
+#[derive(Clone, Copy, Debug, PartialEq, Eq)]
+pub struct SpecValues {
+    pub entries: [Option<Entry>; ENTRIES],
+}
+
+/// The depth test.
+#[derive(Clone, Copy, Debug, PartialEq, Eq)]
+pub struct Depth {
+    /// `VkCompareOp`, 0 to 7.
+    pub compare: u8,
+    pub write: bool,
+}
+
+/// The multisample state.
+#[derive(Clone, Copy, Debug, PartialEq, Eq)]
+pub struct Multisample {
+    /// 1, 2 or 4.
+    pub samples: u8,
+    /// Bit i for sample i; below 2 to the number of samples.
+    pub mask: u8,
+}
+
+/// One colour attachment.
+#[derive(Clone, Copy, Debug, PartialEq, Eq)]
+pub struct Attachment {
+    /// 1 to 4 are unsigned with so many components, 5 to 8 signed with 1 to 4.
+    pub format: u8,
+    /// Bit i for component i; below 2 to the number of components.
+    pub write_mask: u8,
+}
+
+/// The vertex input interface (`VK_GRAPHICS_PIPELINE_LIBRARY_VERTEX_INPUT_INTERFACE_BIT_EXT`).
+#[derive(Clone, Copy, Debug, PartialEq, Eq)]
+pub struct VertexPart {
+    /// Whether link time optimization information is retained.
+    pub retain: bool,
+    pub topology: Topology,
+    pub bindings: [Option<VertexBinding>; BINDINGS],
+    /// By location.
+    pub attributes: [Option<Attribute>; LOCATIONS],
+}
+
+/// The pre-rasterization shaders (`VK_GRAPHICS_PIPELINE_LIBRARY_PRE_RASTERIZATION_SHADERS_BIT_EXT`).
+#[derive(Clone, Copy, Debug, PartialEq, Eq)]
+pub struct PrerastPart {
+    /// Whether link time optimization information is retained.
+    pub retain: bool,
+    /// The vertex module's number, below 64.
+    pub module: u32,
+    pub layout: Layout,
+    /// Bit i for view i, below 16.
+    pub view_mask: u8,
+    /// `rasterizerDiscardEnable`.
+    pub discard: bool,
+    /// `VkCullModeFlags`: 1 front, 2 back.
+    pub cull: u8,
+    /// Whether counter-clockwise triangles are front-facing.
+    pub ccw: bool,
+    pub entries: SpecValues,
+}
+
+/// The fragment shader (`VK_GRAPHICS_PIPELINE_LIBRARY_FRAGMENT_SHADER_BIT_EXT`).
+#[derive(Clone, Copy, Debug, PartialEq, Eq)]
+pub struct FragmentPart {
+    /// Whether link time optimization information is retained.
+    pub retain: bool,
+    /// The fragment module's number, below 64.
+    pub module: u32,
+    pub layout: Layout,
+    /// Bit i for view i, below 16.
+    pub view_mask: u8,
+    pub depth: Option<Depth>,
+    pub multisample: Option<Multisample>,
+    pub entries: SpecValues,
+}
+
+/// The fragment output interface (`VK_GRAPHICS_PIPELINE_LIBRARY_FRAGMENT_OUTPUT_INTERFACE_BIT_EXT`).
+#[derive(Clone, Copy, Debug, PartialEq, Eq)]
+pub struct OutputPart {
+    /// Whether link time optimization information is retained.
+    pub retain: bool,
+    /// Bit i for view i, below 16.
+    pub view_mask: u8,
+    pub multisample: Multisample,
+    /// `VkLogicOp`, 0 to 15, where logic operations are enabled.
+    pub logic: Option<u8>,
+    /// By location.
+    pub attachments: [Option<Attachment>; ATTACHMENTS],
+}
+
+/// The whole state of a graphics pipeline.
+#[derive(Clone, Copy, Debug, PartialEq, Eq)]
+pub struct State {
+    pub vertex: VertexPart,
+    pub prerast: PrerastPart,
+    pub fragment: Option<FragmentPart>,
+    pub output: Option<OutputPart>,
+}

@@ -1,0 +1,155 @@
+//! The vertex input library: what an attribute reads.
+#![tactic(auto)]
+
+ghost use Rattle.std.specs.Prelude.{◌≡◌, ◌<◌, ◌≤◌, IfSome, ℕ, ◌+◌, ◌*◌, ◌^◌};
+ghost use Rattle.state_model.specs.Lawful.{IsVertexPart, IsVertexBinding, IsAttribute};
+ghost use Rattle.pixel_model.specs.Fetch.{fetched, buffer_word, attribute_start, attribute_component, components};
+
+use state_model::{Attribute, COMPONENTS, LOCATIONS, VertexBinding};
+pub use state_model::{BINDINGS, Buffers, VertexPart};
+
+/// A vertex input interface library.
+#[derive(Clone, Copy, Debug, PartialEq, Eq)]
+pub struct VertexLib {
+    pub part: VertexPart,
+}
+
+impl VertexLib {
+    /// The library with this part.
+    pub fn new(part: VertexPart) -> VertexLib
+        ensures { result.part ≡ part }
+    {
+        VertexLib { part }
+    }
+
+    /// What the vertex shader's input at `location` gets for a vertex of an instance (Vulkan, "Vertex Input
+    /// Address Calculation", in 32-bit words). `bound` names the buffer of each binding. A word past a buffer's end or
+    /// without a buffer is 0, and so are an attribute that is absent and the components that it lacks.
+    /// The four words that the vertex shader's input at a location reads for a vertex of an instance, from the buffers that
+    /// are bound by their numbers (Vulkan, "Vertex Input Address Calculation"). Strides and offsets are in 32-bit words. A
+    /// word out of its buffer, or without a buffer, is 0, and so are the components that the attribute lacks and all four
+    /// where there is no attribute.
+    #[tactic(auto, unfolding(pixel_model::specs::Fetch::fetched))]
+    pub fn fetch(
+        &self,
+        buffers: &Buffers,
+        bound: &[Option<u16>; BINDINGS],
+        location: u8,
+        vertex: u32,
+        instance: u32,
+    ) -> [u32; COMPONENTS]
+        requires location { location < LOCATIONS }
+        requires part { IsVertexPart self.now.part }
+        ensures { result ≡ fetched self.now.part buffers.now bound.now location vertex instance }
+    {
+        let Some(attribute) = self.part.attributes[usize::from(location)] else {
+            return [0; COMPONENTS];
+        };
+        let number = usize::from(attribute.binding);
+        let Some(binding) = self.part.bindings[number] else {
+            return [0; COMPONENTS];
+        };
+        let start = start_of(binding, attribute, vertex, instance);
+        read_components(buffers, bound[number], attribute, start)
+    }
+}
+
+// Where the attribute begins, in words.
+fn start_of(binding: VertexBinding, attribute: Attribute, vertex: u32, instance: u32) -> u64
+    requires binding { IsVertexBinding binding }
+    requires attribute { IsAttribute attribute }
+    ensures value { result ≡ attribute_start binding attribute vertex instance }
+    ensures bound { result < 2 ^ 43 }
+{
+    let index = if binding.per_instance {
+        instance
+    } else {
+        vertex
+    };
+    u64::from(binding.stride) * u64::from(index) + u64::from(attribute.offset)
+}
+
+fn word_of(buffers: &Buffers, number: Option<u16>, at: usize) -> u32
+    ensures { result ≡ buffer_word buffers.now number at }
+{
+    let Some(number) = number else {
+        return 0;
+    };
+    let Some(words) = buffers.list.get(usize::from(number)) else {
+        return 0;
+    };
+    words.get(at).copied().unwrap_or(0)
+}
+
+fn read_components(
+    buffers: &Buffers,
+    number: Option<u16>,
+    attribute: Attribute,
+    start: u64,
+) -> [u32; COMPONENTS]
+    requires { start < 2 ^ 43 }
+    ensures { result ≡ components (attribute_component buffers.now number attribute start) }
+{
+    let mut words = [0; COMPONENTS];
+    for i in 0..COMPONENTS {
+        words[i] = if i < usize::from(attribute.comps) {
+            word_of(buffers, number, start as usize + i)
+        } else {
+            0
+        };
+    }
+    words
+}
+
+#[cfg(test)]
+mod tests {
+    use super::*;
+    use sqlite_items::Items;
+    use state_model::Topology;
+    use std::test::Fail;
+
+    // Location 3 reads three words from word 1 on of each instance's two words in binding 1.
+    fn part() -> VertexPart
+        ensures { IsVertexPart result }
+    {
+        let mut bindings = [None; BINDINGS];
+        bindings[1] = Some(VertexBinding {
+            stride: 2,
+            per_instance: true,
+        });
+        let mut attributes = [None; LOCATIONS];
+        attributes[3] = Some(Attribute {
+            binding: 1,
+            comps: 3,
+            signed: false,
+            offset: 1,
+        });
+        VertexPart {
+            retain: false,
+            topology: Topology::Points,
+            bindings,
+            attributes,
+        }
+    }
+
+    #[test]
+    fn reads_by_instance_up_to_the_end(rt: HostRuntime) -> Result<(), Fail> {
+        let mut list = Items::new(rt.alloc());
+        list.push(Items::from_slice(rt.alloc(), &[10, 11, 12, 13, 14])?)?;
+        let buffers = Buffers { list };
+        let library = VertexLib::new(part());
+        assert_eq!(rt;
+            library.fetch(&buffers, &[None, Some(0), None, None], 3, 9, 1),
+            [13, 14, 0, 0]
+        );
+        assert_eq!(rt;
+            library.fetch(&buffers, &[None, Some(1), None, None], 3, 9, 1),
+            [0; 4]
+        );
+        assert_eq!(rt;
+            library.fetch(&buffers, &[Some(0); BINDINGS], 2, 0, 0),
+            [0; 4]
+        );
+        Ok(())
+    }
+}
