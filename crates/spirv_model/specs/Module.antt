@@ -1,11 +1,15 @@
--- The list of instructions of a module's words, found by the length fields alone.
-use Rattle.std.specs.Prelude.{◌≡◌, ℕ, zero, suc, ◌/◌, ◌%◌, Bool, ◌&&◌, ◌==◌, nat_lt, nat_le, if◌then◌else◌, List, [], ◌∷◌, length, drop, slice_index, Option, None, Some, Result, Ok, Err}
+-- The list of instructions of a module's words: cut by the length fields alone, without the skipped opcodes.
+use Rattle.std.specs.Prelude.{◌≡◌, ℕ, zero, suc, ◌+◌, ◌*◌, ◌/◌, ◌%◌, Bool, true, false, not, ◌&&◌, ◌==◌, nat_lt, nat_le, if◌then◌else◌, List, [], ◌∷◌, length, drop, slice_index, Option, None, Some, is_none, Result, Ok, Err}
+use Rattle.std.specs.List.{filter, flat_map}
 use Rattle.std.specs.Option.{option_map}
 use Rattle.spirv_model.specs.declared.module.Inst.{Inst}
 use Rattle.spirv_model.specs.declared.module.Words.{Words}
 use Rattle.spirv_model.specs.declared.module.WordsFault.{WordsFault}
-use Rattle.spirv_model.specs.declared.module.WordsFault.TheVariants.{BadHeader, ZeroLength, CutShort, Memory}
-use Rattle.spirv_model.specs.declared.module.TheConstants.{MAGIC, HEADER_WORDS, WORDS_LIMIT, BOUND_LIMIT}
+use Rattle.spirv_model.specs.declared.module.WordsFault.TheVariants.{BadHeader, ZeroLength, CutShort, UnknownOp, BadShape, FloatType, Memory}
+use Rattle.spirv_model.specs.declared.table.Entry.{Entry}
+use Rattle.spirv_model.specs.declared.table.Entry.TheVariants.{Skipped, Float, Listed}
+use Rattle.spirv_model.specs.Operands.{entry_of, kinds}
+use Rattle.spirv_model.specs.declared.module.TheConstants.{MAGIC, VERSION, HEADER_WORDS, WORDS_LIMIT, BOUND_LIMIT}
 
 -- the instructions up to the end of the words, or up to the first that can't be cut and why it can't
 pub record Cut : Type 0 where
@@ -61,14 +65,82 @@ has_header words =
     && nat_lt 0 (slice_index words 3) && nat_le (slice_index words 3) BOUND_LIMIT
     && (slice_index words 4 == 0)
 
--- the module of a cut
-abbrev pub module_of_cut : ℕ → Cut → Result Words WordsFault
-module_of_cut bound c = elim c.broken [ None ↦ Ok (record { bound = bound; insts = c.insts }) | Some fault ↦ Err fault ]
+-- the entry is that of an opcode without a place in the list, of one with a place, or of OpTypeFloat
+abbrev pub skips : Option Entry → Bool
+skips (Some Skipped) = true
+skips entry = false
 
--- the instructions and the id bound of these words, or the first fault: the header's, else that of the first instruction that can't be cut
+abbrev pub lists : Option Entry → Bool
+lists (Some (Listed operands)) = true
+lists entry = false
+
+abbrev pub floats : Option Entry → Bool
+floats (Some Float) = true
+floats entry = false
+
+-- the instruction has no place in the list
+abbrev pub is_skipped : Inst → Bool
+is_skipped inst = skips (entry_of inst.op)
+
+-- its opcode isn't known
+abbrev pub has_unknown_op : Inst → Bool
+has_unknown_op inst = is_none (entry_of inst.op)
+
+-- its opcode has operands that its words don't fit
+abbrev pub has_bad_shape : Inst → Bool
+has_bad_shape inst = lists (entry_of inst.op) && is_none (kinds inst)
+
+-- it is OpTypeFloat
+abbrev pub is_float_type : Inst → Bool
+is_float_type inst = floats (entry_of inst.op)
+
+-- the rule that an instruction breaks that has this place in the list, or would have it
+abbrev pub fault_at : ℕ → Inst → Option WordsFault
+fault_at place inst =
+    if has_unknown_op inst then Some (UnknownOp inst.op)
+    else if has_bad_shape inst then Some (BadShape place)
+    else if is_float_type inst then Some FloatType
+    else None
+
+-- the first fault of instructions, where so many stand before them in the list
+abbrev pub first_fault : ℕ → List Inst → Option WordsFault
+first_fault place [] = None
+first_fault place (inst ∷ insts) = elim (fault_at place inst) [ None ↦ first_fault (if is_skipped inst then place else place + 1) insts | Some fault ↦ Some fault ]
+
+-- the instructions that aren't skipped
+abbrev pub listed : List Inst → List Inst
+listed insts = filter (λ inst. not (is_skipped inst)) insts
+
+-- the list of a cut, where so many instructions stand before it, or the first fault: what can't be cut comes last
+unfoldable pub list_of_cut : ℕ → Cut → Result (List Inst) WordsFault
+list_of_cut place c =
+    elim (first_fault place c.insts) [
+      | Some fault ↦ Err fault
+      | None ↦ elim c.broken [ Some fault ↦ Err fault | None ↦ Ok (listed c.insts) ]
+    ]
+
+-- the module with this bound
+abbrev pub with_bound : ℕ → Result (List Inst) WordsFault → Result Words WordsFault
+with_bound bound (Ok insts) = Ok (record { bound = bound; insts = insts })
+with_bound bound (Err fault) = Err fault
+
+-- the instructions and the id bound of these words, or the first fault: the header's, else that of the first instruction that breaks a rule
 abbrev pub module_of : List ℕ → Result Words WordsFault
 module_of words =
-    if has_header words then module_of_cut (slice_index words 3) (cut (drop HEADER_WORDS words)) else Err BadHeader
+    if has_header words
+    then with_bound (slice_index words 3) (list_of_cut 0 (cut (drop HEADER_WORDS words)))
+    else Err BadHeader
+
+-- the first word of an instruction: its word count in the high half and its opcode in the low half
+abbrev pub first_word : Inst → ℕ
+first_word inst = (length inst.words + 1) * 65536 + inst.op
+
+abbrev pub words_of : Inst → List ℕ
+words_of inst = first_word inst ∷ inst.words
+
+-- the words of a module with these instructions: the header with version 1.0 and generator 0, and each instruction's words
+abbrev pub module_words : List Inst → ℕ → List ℕ
+module_words insts bound = MAGIC ∷ VERSION ∷ 0 ∷ bound ∷ 0 ∷ flat_map words_of insts
 
 -- a fault is the one that reading gives; of want of memory nothing is said
 abbrev pub Fails : {T : Type 0} → WordsFault → Result T WordsFault → Type 0

@@ -14,6 +14,12 @@ pub const HEADER_WORDS: usize = 5;
 /// The most words that a module may have, its header among them.
 pub const WORDS_LIMIT: usize = 16_384;
 
+/// The most words that an instruction may have after its first, since its word count has 16 bits.
+pub const OPERAND_WORDS_LIMIT: usize = 65_534;
+
+/// The version of a module that is written: 1.0.
+pub const VERSION: u32 = 0x0001_0000;
+
 /// The greatest id bound.
 pub const BOUND_LIMIT: u32 = 65_536;
 
@@ -43,6 +49,16 @@ pub enum WordsFault {
     /// An instruction's word count goes past the last word.
     #[error("CutShort")]
     CutShort,
+    /// An instruction's opcode, which is here, isn't known.
+    #[error("UnknownOp")]
+    UnknownOp(u16),
+    /// An instruction's words don't fit the operands of its opcode. Its place is counted from 0 among the instructions
+    /// that aren't skipped.
+    #[error("BadShape")]
+    BadShape(u32),
+    /// An instruction is OpTypeFloat.
+    #[error("FloatType")]
+    FloatType,
     /// Memory ran out.
     #[error("Memory")]
     Memory,

@@ -1,1 +1,6 @@
+pub mod Entries
+pub mod IdLists
+pub mod Passing
+pub mod TableSearch
 pub mod WordCuts
+pub mod Written

@@ -1,19 +1,15 @@
--- What cutting the words after the header answers.
-use Rattle.std.specs.Prelude.{◌≡◌, List, ◌++◌, None, Some, Result, Ok, Err}
+-- What reading the words after the header keeps.
+use Rattle.std.specs.Prelude.{◌≡◌, ℕ, Bool, not, List, ◌++◌, None, Some, Result, Ok, Err}
 use Rattle.spirv_model.specs.declared.module.Inst.{Inst}
 use Rattle.spirv_model.specs.declared.module.WordsFault.{WordsFault}
-use Rattle.spirv_model.specs.declared.module.WordsFault.TheVariants.{Memory}
-use Rattle.spirv_model.specs.Module.{Cut}
+use Rattle.spirv_model.specs.Module.{fault_at, is_skipped}
 
--- the cut with these instructions in front
-abbrev pub with_front : List Inst → Cut → Cut
-with_front front c = record { insts = front ++ c.insts; broken = c.broken }
+-- the list with these instructions in front
+abbrev pub with_front : List Inst → Result (List Inst) WordsFault → Result (List Inst) WordsFault
+with_front front (Ok insts) = Ok (front ++ insts)
+with_front front (Err fault) = Err fault
 
-abbrev pub BreaksBy : WordsFault → Cut → Type 0
-BreaksBy Memory c = Unit {0}
-BreaksBy fault c = c.broken ≡ Some fault
-
--- all instructions of the cut, or why it is broken, unless memory ran out
-abbrev pub GivesCut : Result (List Inst) WordsFault → Cut → Type 0
-GivesCut (Ok insts) c = (c.insts ≡ insts) × (c.broken ≡ None)
-GivesCut (Err fault) c = BreaksBy fault c
+-- whether the instruction is listed, or the rule that it breaks at this place
+abbrev pub IsListed : Result Bool WordsFault → ℕ → Inst → Type 0
+IsListed (Ok listed) place inst = (fault_at place inst ≡ None) × (is_skipped inst ≡ not listed)
+IsListed (Err fault) place inst = fault_at place inst ≡ Some fault

@@ -1,21 +1,26 @@
-ghost use Rattle.std.specs.Prelude.{◌≡◌};
+ghost use Rattle.std.specs.Prelude.{◌≡◌, ◌≤◌, length, IfOk};
 ghost use Rattle.spirv_model.specs.Module as spec;
-ghost use Rattle.spv_words.specs.Pieces.{GivesCut};
+ghost use Rattle.spv_words.specs.Pieces.{IsListed};
+ghost use Rattle.spv_words.specs.Writing.{AreShort};
 
+use crate::operands::fit;
+use crate::table::entry_of;
+use spirv_model::table::Entry;
 use spirv_model::{BOUND_LIMIT, HEADER_WORDS, Inst, Items, MAGIC, WORDS_LIMIT, Words, WordsFault};
 use std::alloc::Global;
 
 /// The instructions of a module's words in their order, and its id bound (SPIR-V specification, section 2.3 "Physical
 /// Layout of a SPIR-V Module and Instruction"). The first fault is answered: the header's, else that of the first
-/// instruction that can't be cut.
+/// instruction that breaks a rule, by the order of `WordsFault`.
 pub fn read_module(alloc: Global, words: &[u32]) -> Result<Words, WordsFault>
-    ensures { spec.Gives result (spec.module_of words.now) }
+    ensures gives { spec.Gives result (spec.module_of words.now) }
+    ensures short { IfOk result (λ read. AreShort read.insts) }
 {
     if !has_header(words) {
         return Err(WordsFault::BadHeader);
     }
     let (header, body) = words.split_at(HEADER_WORDS);
-    let insts = cut(alloc, body)?;
+    let insts = list(alloc, body)?;
     Ok(Words {
         bound: header[3],
         insts,
@@ -42,9 +47,11 @@ fn has_header(words: &[u32]) -> bool
         && schema == 0
 }
 
-/// The instructions of the words after the header.
-fn cut(alloc: Global, words: &[u32]) -> Result<Items<Inst>, WordsFault>
-    ensures { GivesCut result (spec.cut words.now) }
+/// The list of the words after the header.
+fn list(alloc: Global, words: &[u32]) -> Result<Items<Inst>, WordsFault>
+    requires { length words.now ≤ WORDS_LIMIT }
+    ensures gives { spec.Gives result (spec.list_of_cut 0 (spec.cut words.now)) }
+    ensures short { IfOk result (λ insts. AreShort insts) }
 {
     let mut insts = Items::new(alloc);
     let mut rest = words;
@@ -58,10 +65,30 @@ fn cut(alloc: Global, words: &[u32]) -> Result<Items<Inst>, WordsFault>
             return Err(WordsFault::CutShort);
         }
         let (own, next) = after.split_at(more);
-        let words = Items::from_slice(alloc, own)?;
-        let op = (*first % 65_536) as u16;
-        insts.push(Inst { op, words })?;
         rest = next;
+        let op = (*first % 65_536) as u16;
+        if !is_listed(op, own, insts.len() as u32)? {
+            continue;
+        }
+        let words = Items::from_slice(alloc, own)?;
+        insts.push(Inst { op, words })?;
     }
     Ok(insts)
+}
+
+/// Whether an instruction has a place in the list, which would be this one: a skipped one has none.
+fn is_listed(op: u16, words: &[u32], place: u32) -> Result<bool, WordsFault>
+    ensures { IsListed result place (record { op = op; words = words.now }) }
+{
+    match entry_of(op) {
+        None => Err(WordsFault::UnknownOp(op)),
+        Some(Entry::Skipped) => Ok(false),
+        Some(Entry::Float) => Err(WordsFault::FloatType),
+        Some(Entry::Listed(operands)) => {
+            if !fit(operands, words) {
+                return Err(WordsFault::BadShape(place));
+            }
+            Ok(true)
+        }
+    }
 }

@@ -7,7 +7,8 @@ use Rattle.std.specs.Bool.{Decides}
 use Rattle.std.proofs.lemmas.Slice.Eq.{bytes_eq-Decides}
 use Rattle.spirv_model.specs.declared.module.Inst.{Inst}
 use Rattle.spirv_model.specs.declared.module.Words.{Words}
-use Rattle.spirv_model.specs.Module.{module_of}
+use Rattle.spirv_model.specs.Module.{module_of, list_of_cut}
+use Rattle.spirv_model.specs.Operands.{entry_of, kinds}
 use Rattle.stage_model.specs.Stage.{Outcome, stage}
 use Rattle.draw_model.specs.declared.target.Target.{Target}
 use Rattle.draw_model.specs.Draw.{image}
@@ -22,11 +23,11 @@ abbrev stage_of : Option Words → Option Outcome
 stage_of found = option_and_then (λ (m : Words). stage m.insts) found
 
 point_has : (z x : ℕ) → IsSome (stage_of (result_ok (module_of (point_form z x))))
-unfolding point_form
+unfolding point_form list_of_cut entry_of kinds
 point_has z x = refl
 
 colour_has : (colour : ℕ) → IsSome (stage_of (result_ok (module_of (colour_form colour))))
-unfolding colour_form
+unfolding colour_form list_of_cut entry_of kinds
 colour_has colour = refl
 
 -- what came of two steps came of the first

@@ -1,0 +1,9 @@
+//! Tests that go through several crates of the front half: words, the tree and the meanings of ids of one module.
+#![tactic(auto)]
+
+#[cfg(test)]
+mod bad_modules;
+#[cfg(test)]
+mod samples;
+#[cfg(test)]
+mod tests;

@@ -1,0 +1,9 @@
+pub mod Ends
+pub mod Faults
+pub mod Fronts
+pub mod LabelMarks
+pub mod Walks
+pub mod Readings
+pub mod ModuleWalks
+pub mod Listings
+pub mod OneTree

@@ -1,0 +1,44 @@
+-- What the table of a module's ids tells.
+use Rattle.std.specs.Prelude.{◌≡◌, ℕ, Option, None, Some, Result, Ok, Err}
+use Rattle.spirv_model.specs.declared.module.Words.{Words}
+use Rattle.spirv_model.specs.declared.types.Meaning.{Meaning}
+use Rattle.spirv_model.specs.declared.types.Known.{Known}
+use Rattle.spirv_model.specs.declared.types.TypeFault.{TypeFault}
+use Rattle.spirv_model.specs.declared.types.TypeFault.TheVariants.{Memory}
+use Rattle.spirv_model.specs.Meanings.{meaning}
+use Rattle.spirv_model.specs.Decorations.{decoration_of, offset_of}
+use Rattle.spirv_model.specs.TypeFaults.{type_fault}
+use Rattle.spv_types.specs.declared.ids.Ids.{Ids}
+use Rattle.spv_types.specs.Pairs.{at_pair}
+use Rattle.spv_types.specs.Tables.{in_table}
+
+abbrev pub meaning_or : Meaning → Option Known → Meaning
+meaning_or default None = default
+meaning_or default (Some known) = known.meaning
+
+-- the meaning that is told of an id
+abbrev pub meaning_at : Ids → ℕ → Meaning
+meaning_at ids id = meaning_or ids.absent (in_table ids.table id)
+
+-- the word of an id's decoration, and the offset of a member, as they are told
+abbrev pub decoration_at : Ids → ℕ → ℕ → Option ℕ
+decoration_at ids id decoration = at_pair ids.decorations.words id decoration
+
+abbrev pub offset_at : Ids → ℕ → ℕ → Option ℕ
+offset_at ids id member = at_pair ids.decorations.offsets id member
+
+-- the ids of a module without faults
+pub record AreIdsOf (words : Words) (ids : Ids) : Type 0 where
+  pub sound : type_fault words ≡ None
+  pub meanings : (id : ℕ) → meaning_at ids id ≡ meaning words.insts id
+  pub decorations : (id decoration : ℕ) → decoration_at ids id decoration ≡ decoration_of words.insts id decoration
+  pub offsets : (id member : ℕ) → offset_at ids id member ≡ offset_of words.insts id member
+
+-- the fault is the first; of want of memory nothing is said
+abbrev pub Fails : Words → TypeFault → Type 0
+Fails words Memory = Unit {0}
+Fails words fault = type_fault words ≡ Some fault
+
+abbrev pub Gives : Words → Result Ids TypeFault → Type 0
+Gives words (Ok ids) = AreIdsOf words ids
+Gives words (Err fault) = Fails words fault

@@ -1,0 +1,486 @@
+use crate::TypeFault;
+use crate::samples::{ATTRIBUTE_VERTEX, Listing, QUOTIENT_FRAGMENT, UNIFORM_FRAGMENT, module};
+use crate::tests::{answer, sound_ids};
+use spirv_model::{builtin, class, decoration, execution_model, op};
+use std::test::Fail;
+
+const VERTEX: Listing = &[(
+    op::ENTRY_POINT,
+    &[execution_model::VERTEX, 29, 0x6e69_616d, 0],
+)];
+
+const FRAGMENT: Listing = &[(
+    op::ENTRY_POINT,
+    &[execution_model::FRAGMENT, 29, 0x6e69_616d, 0],
+)];
+
+/// Types, constants that can be specialized, and pointers to the structure 13 of an integer and an array.
+const TYPES: Listing = &[
+    (op::TYPE_INT, &[1, 32, 1]),
+    (op::TYPE_INT, &[2, 32, 0]),
+    (op::TYPE_BOOL, &[3]),
+    (op::TYPE_VECTOR, &[4, 1, 4]),
+    (op::TYPE_POINTER, &[5, class::INPUT, 1]),
+    (op::TYPE_POINTER, &[6, class::OUTPUT, 4]),
+    (op::TYPE_POINTER, &[7, class::INPUT, 4]),
+    (op::TYPE_POINTER, &[8, class::INPUT, 3]),
+    (op::SPEC_CONSTANT, &[1, 9, 0]),
+    (op::SPEC_CONSTANT_TRUE, &[3, 10]),
+    (op::CONSTANT, &[2, 11, 3]),
+    (op::TYPE_ARRAY, &[12, 1, 11]),
+    (op::TYPE_STRUCT, &[13, 1, 12]),
+    (op::TYPE_POINTER, &[14, class::UNIFORM, 13]),
+    (op::TYPE_POINTER, &[15, class::PUSH_CONSTANT, 13]),
+];
+
+/// Block, and the places of members and elements.
+const LAID_OUT: Listing = &[
+    (op::DECORATE, &[13, decoration::BLOCK]),
+    (op::MEMBER_DECORATE, &[13, 0, decoration::OFFSET, 0]),
+    (op::MEMBER_DECORATE, &[13, 1, decoration::OFFSET, 4]),
+    (op::DECORATE, &[12, decoration::ARRAY_STRIDE, 4]),
+];
+
+/// The kind of the module, what stands after its types, from place 16 on, in two parts, and where decorations are bad.
+const CASES: [(Listing, Listing, Listing, Option<u32>); 38] = [
+    // RelaxedPrecision, which isn't listed
+    (VERTEX, &[], &[(op::DECORATE, &[9, 0])], Some(16)),
+    // Block with a word, Location without one, and Location on a member
+    (
+        VERTEX,
+        &[],
+        &[(op::DECORATE, &[13, decoration::BLOCK, 0])],
+        Some(16),
+    ),
+    (
+        VERTEX,
+        &[],
+        &[(op::DECORATE, &[20, decoration::LOCATION])],
+        Some(16),
+    ),
+    (
+        VERTEX,
+        &[],
+        &[(op::MEMBER_DECORATE, &[13, 0, decoration::LOCATION, 0])],
+        Some(16),
+    ),
+    // twice on an id, and on a member
+    (
+        VERTEX,
+        &[],
+        &[
+            (op::DECORATE, &[1, decoration::FLAT]),
+            (op::DECORATE, &[1, decoration::FLAT]),
+        ],
+        Some(17),
+    ),
+    (
+        VERTEX,
+        LAID_OUT,
+        &[(op::MEMBER_DECORATE, &[13, 1, decoration::OFFSET, 8])],
+        Some(20),
+    ),
+    // one SpecId for two constants
+    (
+        VERTEX,
+        &[],
+        &[
+            (op::DECORATE, &[9, decoration::SPEC_ID, 5]),
+            (op::DECORATE, &[10, decoration::SPEC_ID, 5]),
+        ],
+        Some(17),
+    ),
+    (
+        VERTEX,
+        &[],
+        &[
+            (op::DECORATE, &[9, decoration::SPEC_ID, 5]),
+            (op::DECORATE, &[10, decoration::SPEC_ID, 6]),
+        ],
+        None,
+    ),
+    // SpecId on OpConstant, and on OpSpecConstantOp
+    (
+        VERTEX,
+        &[],
+        &[(op::DECORATE, &[11, decoration::SPEC_ID, 0])],
+        Some(16),
+    ),
+    (
+        VERTEX,
+        &[],
+        &[
+            (op::DECORATE, &[20, decoration::SPEC_ID, 0]),
+            (op::SPEC_CONSTANT_OP, &[1, 20, op::S_NEGATE as u32, 9]),
+        ],
+        Some(16),
+    ),
+    // numbers that are out of range, and the last that aren't
+    (
+        VERTEX,
+        &[],
+        &[(op::DECORATE, &[20, decoration::LOCATION, 8])],
+        Some(16),
+    ),
+    (
+        VERTEX,
+        &[],
+        &[(op::DECORATE, &[20, decoration::DESCRIPTOR_SET, 4])],
+        Some(16),
+    ),
+    (
+        VERTEX,
+        &[],
+        &[(op::DECORATE, &[20, decoration::BINDING, 8])],
+        Some(16),
+    ),
+    (
+        VERTEX,
+        &[],
+        &[
+            (op::DECORATE, &[20, decoration::LOCATION, 7]),
+            (op::DECORATE, &[20, decoration::DESCRIPTOR_SET, 3]),
+            (op::DECORATE, &[20, decoration::BINDING, 7]),
+        ],
+        None,
+    ),
+    // an input with neither or both of Location and BuiltIn, and one with either
+    (
+        VERTEX,
+        &[],
+        &[(op::VARIABLE, &[5, 20, class::INPUT])],
+        Some(16),
+    ),
+    (
+        VERTEX,
+        &[],
+        &[
+            (op::DECORATE, &[20, decoration::LOCATION, 0]),
+            (
+                op::DECORATE,
+                &[20, decoration::BUILT_IN, builtin::VERTEX_INDEX],
+            ),
+            (op::VARIABLE, &[5, 20, class::INPUT]),
+        ],
+        Some(18),
+    ),
+    (
+        VERTEX,
+        &[],
+        &[
+            (op::DECORATE, &[20, decoration::LOCATION, 0]),
+            (
+                op::DECORATE,
+                &[21, decoration::BUILT_IN, builtin::INSTANCE_INDEX],
+            ),
+            (op::VARIABLE, &[7, 20, class::INPUT]),
+            (op::VARIABLE, &[5, 21, class::INPUT]),
+        ],
+        None,
+    ),
+    // a truth value with a Location
+    (
+        VERTEX,
+        &[],
+        &[
+            (op::DECORATE, &[20, decoration::LOCATION, 0]),
+            (op::VARIABLE, &[8, 20, class::INPUT]),
+        ],
+        Some(17),
+    ),
+    // FragCoord and FrontFacing in a vertex and in a fragment module
+    (
+        VERTEX,
+        &[],
+        &[
+            (
+                op::DECORATE,
+                &[20, decoration::BUILT_IN, builtin::FRAG_COORD],
+            ),
+            (op::VARIABLE, &[7, 20, class::INPUT]),
+        ],
+        Some(16),
+    ),
+    (
+        FRAGMENT,
+        &[],
+        &[
+            (
+                op::DECORATE,
+                &[20, decoration::BUILT_IN, builtin::FRAG_COORD],
+            ),
+            (
+                op::DECORATE,
+                &[21, decoration::BUILT_IN, builtin::FRONT_FACING],
+            ),
+            (op::VARIABLE, &[7, 20, class::INPUT]),
+            (op::VARIABLE, &[8, 21, class::INPUT]),
+        ],
+        None,
+    ),
+    // Position of a fragment module, of an input, and of an integer; VertexIndex of a type; PointSize, which isn't listed
+    (
+        FRAGMENT,
+        &[],
+        &[
+            (op::DECORATE, &[20, decoration::BUILT_IN, builtin::POSITION]),
+            (op::VARIABLE, &[6, 20, class::OUTPUT]),
+        ],
+        Some(16),
+    ),
+    (
+        VERTEX,
+        &[],
+        &[
+            (op::DECORATE, &[20, decoration::BUILT_IN, builtin::POSITION]),
+            (op::VARIABLE, &[7, 20, class::INPUT]),
+        ],
+        Some(16),
+    ),
+    (
+        VERTEX,
+        &[],
+        &[
+            (op::DECORATE, &[20, decoration::BUILT_IN, builtin::POSITION]),
+            (op::TYPE_POINTER, &[21, class::OUTPUT, 1]),
+            (op::VARIABLE, &[21, 20, class::OUTPUT]),
+        ],
+        Some(16),
+    ),
+    (
+        VERTEX,
+        &[],
+        &[(
+            op::DECORATE,
+            &[1, decoration::BUILT_IN, builtin::VERTEX_INDEX],
+        )],
+        Some(16),
+    ),
+    (
+        VERTEX,
+        &[],
+        &[
+            (op::DECORATE, &[20, decoration::BUILT_IN, 1]),
+            (op::VARIABLE, &[5, 20, class::INPUT]),
+        ],
+        Some(16),
+    ),
+    // a Uniform variable with set and binding, without a binding, and in a structure without Block
+    (
+        VERTEX,
+        LAID_OUT,
+        &[
+            (op::DECORATE, &[20, decoration::DESCRIPTOR_SET, 0]),
+            (op::DECORATE, &[20, decoration::BINDING, 0]),
+            (op::VARIABLE, &[14, 20, class::UNIFORM]),
+        ],
+        None,
+    ),
+    (
+        VERTEX,
+        LAID_OUT,
+        &[
+            (op::DECORATE, &[20, decoration::DESCRIPTOR_SET, 0]),
+            (op::VARIABLE, &[14, 20, class::UNIFORM]),
+        ],
+        Some(21),
+    ),
+    (
+        VERTEX,
+        &[],
+        &[
+            (op::MEMBER_DECORATE, &[13, 0, decoration::OFFSET, 0]),
+            (op::MEMBER_DECORATE, &[13, 1, decoration::OFFSET, 4]),
+            (op::DECORATE, &[12, decoration::ARRAY_STRIDE, 4]),
+            (op::VARIABLE, &[15, 20, class::PUSH_CONSTANT]),
+        ],
+        Some(19),
+    ),
+    // a PushConstant variable that is no structure, and one of a truth value
+    (
+        VERTEX,
+        &[],
+        &[
+            (op::TYPE_POINTER, &[20, class::PUSH_CONSTANT, 1]),
+            (op::VARIABLE, &[20, 21, class::PUSH_CONSTANT]),
+        ],
+        Some(17),
+    ),
+    (
+        VERTEX,
+        &[],
+        &[
+            (op::DECORATE, &[20, decoration::BLOCK]),
+            (op::MEMBER_DECORATE, &[20, 0, decoration::OFFSET, 0]),
+            (op::TYPE_STRUCT, &[20, 3]),
+            (op::TYPE_POINTER, &[21, class::PUSH_CONSTANT, 20]),
+            (op::VARIABLE, &[21, 22, class::PUSH_CONSTANT]),
+        ],
+        Some(20),
+    ),
+    // a member without an offset, and one with the offset 6
+    (
+        VERTEX,
+        &[],
+        &[
+            (op::DECORATE, &[13, decoration::BLOCK]),
+            (op::MEMBER_DECORATE, &[13, 0, decoration::OFFSET, 0]),
+            (op::DECORATE, &[12, decoration::ARRAY_STRIDE, 4]),
+            (op::VARIABLE, &[15, 20, class::PUSH_CONSTANT]),
+        ],
+        Some(19),
+    ),
+    (
+        VERTEX,
+        &[],
+        &[
+            (op::DECORATE, &[13, decoration::BLOCK]),
+            (op::MEMBER_DECORATE, &[13, 0, decoration::OFFSET, 0]),
+            (op::MEMBER_DECORATE, &[13, 1, decoration::OFFSET, 6]),
+            (op::DECORATE, &[12, decoration::ARRAY_STRIDE, 4]),
+            (op::VARIABLE, &[15, 20, class::PUSH_CONSTANT]),
+        ],
+        Some(20),
+    ),
+    // an array without a stride, and with the strides 0 and 6
+    (
+        VERTEX,
+        &[],
+        &[
+            (op::DECORATE, &[13, decoration::BLOCK]),
+            (op::MEMBER_DECORATE, &[13, 0, decoration::OFFSET, 0]),
+            (op::MEMBER_DECORATE, &[13, 1, decoration::OFFSET, 4]),
+            (op::VARIABLE, &[15, 20, class::PUSH_CONSTANT]),
+        ],
+        Some(19),
+    ),
+    (
+        VERTEX,
+        &[],
+        &[
+            (op::DECORATE, &[13, decoration::BLOCK]),
+            (op::MEMBER_DECORATE, &[13, 0, decoration::OFFSET, 0]),
+            (op::MEMBER_DECORATE, &[13, 1, decoration::OFFSET, 4]),
+            (op::DECORATE, &[12, decoration::ARRAY_STRIDE, 0]),
+            (op::VARIABLE, &[15, 20, class::PUSH_CONSTANT]),
+        ],
+        Some(20),
+    ),
+    (
+        VERTEX,
+        &[],
+        &[
+            (op::DECORATE, &[13, decoration::BLOCK]),
+            (op::MEMBER_DECORATE, &[13, 0, decoration::OFFSET, 0]),
+            (op::MEMBER_DECORATE, &[13, 1, decoration::OFFSET, 4]),
+            (op::DECORATE, &[12, decoration::ARRAY_STRIDE, 6]),
+            (op::VARIABLE, &[15, 20, class::PUSH_CONSTANT]),
+        ],
+        Some(20),
+    ),
+    // two Uniform variables in one slot
+    (
+        VERTEX,
+        LAID_OUT,
+        &[
+            (op::DECORATE, &[20, decoration::DESCRIPTOR_SET, 1]),
+            (op::DECORATE, &[20, decoration::BINDING, 2]),
+            (op::DECORATE, &[21, decoration::DESCRIPTOR_SET, 1]),
+            (op::DECORATE, &[21, decoration::BINDING, 2]),
+            (op::VARIABLE, &[14, 20, class::UNIFORM]),
+            (op::VARIABLE, &[14, 21, class::UNIFORM]),
+        ],
+        Some(25),
+    ),
+    // two PushConstant variables
+    (
+        VERTEX,
+        LAID_OUT,
+        &[
+            (op::VARIABLE, &[15, 20, class::PUSH_CONSTANT]),
+            (op::VARIABLE, &[15, 21, class::PUSH_CONSTANT]),
+        ],
+        Some(21),
+    ),
+    // two positions
+    (
+        VERTEX,
+        &[],
+        &[
+            (op::DECORATE, &[20, decoration::BUILT_IN, builtin::POSITION]),
+            (op::DECORATE, &[21, decoration::BUILT_IN, builtin::POSITION]),
+            (op::VARIABLE, &[6, 20, class::OUTPUT]),
+            (op::VARIABLE, &[6, 21, class::OUTPUT]),
+        ],
+        Some(19),
+    ),
+];
+
+#[test]
+fn the_first_bad_decoration(rt: HostRuntime) -> Result<(), Fail> {
+    for (kind, front, rest, place) in CASES {
+        let mut words = module(rt.alloc(), 30, kind)?;
+        words.insts.append(module(rt.alloc(), 30, TYPES)?.insts)?;
+        words.insts.append(module(rt.alloc(), 30, front)?.insts)?;
+        words.insts.append(module(rt.alloc(), 30, rest)?.insts)?;
+        let fault = place.map(TypeFault::BadDecoration);
+        assert_eq!(rt; answer(&rt, &words)?.err(), fault, "of {rest:?}");
+    }
+    Ok(())
+}
+
+#[test]
+fn a_fault_of_types_before_a_bad_decoration_comes_first(rt: HostRuntime) -> Result<(), Fail> {
+    let width: Listing = &[(op::TYPE_INT, &[1, 64, 1])];
+    let decoration: Listing = &[(op::DECORATE, &[1, 0])];
+    let mut words = module(rt.alloc(), 30, width)?;
+    words
+        .insts
+        .append(module(rt.alloc(), 30, decoration)?.insts)?;
+    assert_eq!(rt; answer(&rt, &words)?.err(), Some(TypeFault::BadType(0)));
+    let mut words = module(rt.alloc(), 30, decoration)?;
+    words.insts.append(module(rt.alloc(), 30, width)?.insts)?;
+    assert_eq!(rt;
+        answer(&rt, &words)?.err(),
+        Some(TypeFault::BadDecoration(0))
+    );
+    Ok(())
+}
+
+#[test]
+fn what_decorations_say_of_the_samples(rt: HostRuntime) -> Result<(), Fail> {
+    let ids = sound_ids(&rt, 12, ATTRIBUTE_VERTEX)?;
+    assert_eq!(rt; ids.built_in(6), Some(builtin::POSITION));
+    assert_eq!(rt; ids.location(6), None);
+    assert_eq!(rt; ids.built_in(8), None);
+    assert_eq!(rt; ids.location(8), Some(0));
+    let ids = sound_ids(&rt, 11, QUOTIENT_FRAGMENT)?;
+    assert_eq!(rt; ids.spec_id(9), Some(0));
+    assert_eq!(rt; ids.spec_id(6), None);
+    assert_eq!(rt; ids.location(5), Some(0));
+    let ids = sound_ids(&rt, 17, UNIFORM_FRAGMENT)?;
+    assert_eq!(rt; ids.spec_id(9), Some(0));
+    assert_eq!(rt; ids.slot(12), Some((0, 0)));
+    assert_eq!(rt; ids.slot(5), None);
+    assert_eq!(rt; ids.offset(10, 0), Some(0));
+    assert_eq!(rt; ids.offset(10, 1), None);
+    assert_eq!(rt; ids.stride(10), None);
+    Ok(())
+}
+
+#[test]
+fn slots_offsets_and_strides(rt: HostRuntime) -> Result<(), Fail> {
+    let mut words = module(rt.alloc(), 30, TYPES)?;
+    let slot: Listing = &[
+        (op::DECORATE, &[20, decoration::BINDING, 7]),
+        (op::DECORATE, &[20, decoration::DESCRIPTOR_SET, 3]),
+    ];
+    words.insts.append(module(rt.alloc(), 30, slot)?.insts)?;
+    words.insts.append(module(rt.alloc(), 30, LAID_OUT)?.insts)?;
+    let ids = answer(&rt, &words)??;
+    assert_eq!(rt; ids.slot(20), Some((3, 7)));
+    assert_eq!(rt; ids.offset(13, 0), Some(0));
+    assert_eq!(rt; ids.offset(13, 1), Some(4));
+    assert_eq!(rt; ids.stride(12), Some(4));
+    Ok(())
+}

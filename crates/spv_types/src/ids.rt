@@ -1,0 +1,163 @@
+ghost use Rattle.std.specs.Prelude.{◌≡◌, ◌<◌, ◌^◌, length, IfOk, IfSome};
+ghost use Rattle.spirv_model.specs.Decorations.{both};
+ghost use Rattle.spirv_model.specs.TypeFaults.{type_fault};
+ghost use Rattle.spirv_model.specs.declared.decoration.TheConstants.{SPEC_ID, LOCATION, BUILT_IN, DESCRIPTOR_SET, BINDING, ARRAY_STRIDE};
+ghost use Rattle.spv_types.specs.Answers.{Gives, meaning_at, decoration_at, offset_at};
+ghost use Rattle.spv_types.specs.Decorated.{AreDecorationsOf};
+ghost use Rattle.spv_types.specs.FirstBad.{bad_else};
+ghost use Rattle.spv_types.specs.Tables.{HasPlaces, GoesOver};
+
+use crate::bad_decoration::{first_bad_decoration, model_of};
+use crate::decorations::{Decorations, decorations_of};
+use crate::facts::Whole;
+use crate::faults::Places;
+use crate::known::Table;
+use crate::pass::{Pass, definitions, go_over};
+use spirv_model::{Known, Meaning, TypeFault, Words, decoration};
+use std::alloc::{AllocError, Global};
+
+/// What the ids of a module mean, and what decorations say of them.
+#[derive(Debug, Drop)]
+pub struct Ids {
+    table: Table,
+    /// What an id means that isn't in the table.
+    absent: Meaning,
+    decorations: Decorations,
+}
+
+impl Ids {
+    /// What an id means: `Absent` where no instruction has it as its result.
+    pub fn at(&self, id: u32) -> &Meaning
+        ensures { result.now ≡ meaning_at self.now id }
+    {
+        match self.table.get(&id) {
+            Some(Known { meaning, .. }) => meaning,
+            None => &self.absent,
+        }
+    }
+
+    /// The number that a specialization constant is set by.
+    pub fn spec_id(&self, id: u32) -> Option<u32>
+        ensures { result ≡ decoration_at self.now id SPEC_ID }
+    {
+        self.decoration(id, decoration::SPEC_ID)
+    }
+
+    /// The location of an input or an output.
+    pub fn location(&self, id: u32) -> Option<u32>
+        ensures { result ≡ decoration_at self.now id LOCATION }
+    {
+        self.decoration(id, decoration::LOCATION)
+    }
+
+    /// The built-in that a variable is (SPIR-V specification, section 3.21 "BuiltIn").
+    pub fn built_in(&self, id: u32) -> Option<u32>
+        ensures { result ≡ decoration_at self.now id BUILT_IN }
+    {
+        self.decoration(id, decoration::BUILT_IN)
+    }
+
+    /// The descriptor set and the binding of an id that has both.
+    pub fn slot(&self, id: u32) -> Option<(u32, u32)>
+        ensures { result ≡ both (decoration_at self.now id DESCRIPTOR_SET) (decoration_at self.now id BINDING) }
+    {
+        let set = self.decoration(id, decoration::DESCRIPTOR_SET)?;
+        let binding = self.decoration(id, decoration::BINDING)?;
+        Some((set, binding))
+    }
+
+    /// The offset of a structure's member, in bytes. Members are counted from 0.
+    pub fn offset(&self, id: u32, member: u32) -> Option<u32>
+        ensures { result ≡ offset_at self.now id member }
+    {
+        self.decorations
+            .offsets
+            .get(&(id, member as usize))
+            .copied()
+    }
+
+    /// The bytes from an element of an array to the next.
+    pub fn stride(&self, id: u32) -> Option<u32>
+        ensures { result ≡ decoration_at self.now id ARRAY_STRIDE }
+    {
+        self.decoration(id, decoration::ARRAY_STRIDE)
+    }
+
+    /// The word of a decoration of the id.
+    fn decoration(&self, id: u32, decoration: u32) -> Option<u32>
+        ensures { result ≡ decoration_at self.now id decoration }
+    {
+        self.decorations
+            .words
+            .get(&(id, decoration as usize))
+            .copied()
+    }
+}
+
+/// What the ids of a module mean and what decorations say of them, or the first fault of its ids, types, constants and
+/// decorations (SPIR-V specification, sections 2.16 "Validation Rules", 3.20 "Decoration", 3.21 "BuiltIn", 3.49.6
+/// "Type-Declaration Instructions" and 3.49.7 "Constant-Creation Instructions"): at the lowest place, and there in the
+/// order of `TypeFault`. Places are 32-bit numbers, so there are fewer than 2^32 instructions, as in each module that is
+/// read.
+pub fn ids_of(alloc: Global, words: &Words) -> Result<Ids, TypeFault>
+    requires { length words.now.insts < 2 ^ 32 }
+    ensures { Gives words.now result }
+{
+    let insts = words.insts.as_slice();
+    let places = definitions(alloc, insts)?;
+    let pass = go_over(alloc, words, &places)?;
+    let decorations = decorations_of(alloc, insts)?;
+    match first_fault(alloc, words, &places, &pass, &decorations)? {
+        Some(fault) => Err(fault),
+        None => Ok(Ids {
+            table: pass.table,
+            absent: Meaning::Absent,
+            decorations,
+        }),
+    }
+}
+
+/// The first fault, decorations among them.
+fn first_fault(
+    alloc: Global,
+    words: &Words,
+    places: &Places,
+    pass: &Pass,
+    decorations: &Decorations,
+) -> Result<Option<TypeFault>, AllocError>
+    requires few { length words.now.insts < 2 ^ 32 }
+    requires defined { HasPlaces places.now words.now.insts }
+    requires over { GoesOver words.now pass.now }
+    requires decorations { AreDecorationsOf words.now.insts decorations.now }
+    ensures { IfOk result (λ fault. fault ≡ type_fault words.now) }
+{
+    let insts = words.insts.as_slice();
+    let whole = Whole {
+        decorations,
+        known: &pass.table,
+        places,
+        insts,
+        model: model_of(insts),
+    };
+    match pass.found {
+        Some(found) => {
+            let bad = first_bad_decoration(alloc, &whole, found.place)?;
+            Ok(bad_or(bad, Some(found.fault)))
+        }
+        None => {
+            let bad = first_bad_decoration(alloc, &whole, insts.len())?;
+            Ok(bad_or(bad, None))
+        }
+    }
+}
+
+/// The bad decoration, else the other fault.
+fn bad_or(bad: Option<usize>, other: Option<TypeFault>) -> Option<TypeFault>
+    requires { IfSome bad (λ place. place < 2 ^ 32) }
+    ensures { result ≡ bad_else bad other }
+{
+    match bad {
+        Some(place) => Some(TypeFault::BadDecoration(place as u32)),
+        None => other,
+    }
+}

@@ -1,0 +1,103 @@
+//! What shapes the ids of types have.
+ghost use Rattle.std.specs.Prelude.{◌≡◌};
+ghost use Rattle.spirv_model.specs.Meanings.{meaning_in};
+ghost use Rattle.spirv_model.specs.Meanings as means;
+ghost use Rattle.spirv_model.specs.Decorations as spec;
+ghost use Rattle.spv_types.specs.FactsIn.{facts_in};
+ghost use Rattle.spv_types.specs.Tables.{in_table};
+
+use crate::facts::Whole;
+use crate::known::{Table, is_bool, is_integer};
+use spirv_model::{Known, Meaning, Shape};
+
+/// Whether the id is the type of an integer or of a vector of integers.
+pub fn is_integers(table: &Table, id: u32) -> bool
+    ensures { result ≡ spec.is_integers (meaning_in (in_table table.now id)) }
+{
+    matches!(
+        table.get(&id),
+        Some(Known {
+            meaning: Meaning::Shape(Shape::Int { .. } | Shape::IntVector { .. }),
+            ..
+        })
+    )
+}
+
+/// Whether the id is the type of four signed integers.
+fn is_position_type(table: &Table, id: u32) -> bool
+    ensures { result ≡ spec.is_position_type (meaning_in (in_table table.now id)) }
+{
+    match table.get(&id) {
+        Some(
+            Known {
+                meaning: Meaning::Shape(Shape::IntVector { comps, signed }),
+                ..
+            },
+        ) => *comps == 4 && *signed,
+        _ => false,
+    }
+}
+
+pub fn is_array(table: &Table, id: u32) -> bool
+    ensures { result ≡ spec.is_array (meaning_in (in_table table.now id)) }
+{
+    matches!(
+        table.get(&id),
+        Some(Known {
+            meaning: Meaning::Shape(Shape::Array { .. }),
+            ..
+        })
+    )
+}
+
+/// The type that a pointer type points to.
+pub fn pointed_by(table: &Table, id: u32) -> Option<u32>
+    ensures { result ≡ spec.pointed_by (meaning_in (in_table table.now id)) }
+{
+    match table.get(&id) {
+        Some(
+            Known {
+                meaning: Meaning::Shape(Shape::Pointer { to, .. }),
+                ..
+            },
+        ) => Some(*to),
+        _ => None,
+    }
+}
+
+/// Whether a variable of this type holds an integer or a vector of integers.
+pub fn holds_integers(whole: &Whole, ty: u32) -> bool
+    ensures { result ≡ spec.is_integers (spec.held_type (facts_in whole.now) ty) }
+{
+    match pointed_by(whole.known, ty) {
+        Some(to) => is_integers(whole.known, to),
+        None => false,
+    }
+}
+
+pub fn holds_integer(whole: &Whole, ty: u32) -> bool
+    ensures { result ≡ means.is_integer (spec.held_type (facts_in whole.now) ty) }
+{
+    match pointed_by(whole.known, ty) {
+        Some(to) => is_integer(whole.known, to),
+        None => false,
+    }
+}
+
+pub fn holds_bool(whole: &Whole, ty: u32) -> bool
+    ensures { result ≡ means.is_bool (spec.held_type (facts_in whole.now) ty) }
+{
+    match pointed_by(whole.known, ty) {
+        Some(to) => is_bool(whole.known, to),
+        None => false,
+    }
+}
+
+pub fn holds_position(whole: &Whole, ty: u32) -> bool
+    ensures { result ≡ spec.is_position_type (spec.held_type (facts_in whole.now) ty) }
+{
+    match pointed_by(whole.known, ty) {
+        Some(to) => is_position_type(whole.known, to),
+        None => false,
+    }
+}
