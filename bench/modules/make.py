@@ -88,36 +88,21 @@ class Module:
         return struct.pack(f"<{len(header) + len(self.words)}I", *header, *self.words)
 
 
-def straight(words):
+def filled(words, extend):
+    """A module of so many words; `extend` adds to it, and gives the last value where that is a new one."""
     module = Module()
     value = module.frame()
     while len(module.words) < words:
-        value = module.add(value)
-    return module.written(value)
-
-
-def selections(words):
-    module = Module()
-    value = module.frame()
-    while len(module.words) < words:
-        module.selection(value)
-    return module.written(value)
-
-
-def loops(words):
-    module = Module()
-    value = module.frame()
-    while len(module.words) < words:
-        module.loop(value)
+        value = extend(module, value) or value
     return module.written(value)
 
 
 def main():
     modules = {
-        "straight": straight(WORDS),
-        "selections": selections(WORDS),
-        "loops": loops(WORDS),
-        "few_loops": loops(WORDS // 4),
+        "straight": filled(WORDS, Module.add),
+        "selections": filled(WORDS, Module.selection),
+        "loops": filled(WORDS, Module.loop),
+        "few_loops": filled(WORDS // 4, Module.loop),
     }
     for name, written in modules.items():
         with open(f"{sys.argv[1]}/{name}.spv", "wb") as file:
