@@ -36,7 +36,7 @@ fn report(rt: &impl Eprint, outcome: &Outcome) -> io::Result<()> {
         return eprintln!(rt; "gplrun: line {line}: {cause}");
     }
     match outcome.status {
-        status::USAGE => eprintln!(rt; "gplrun: usage"),
+        status::USAGE => eprintln!(rt; "gplrun: usage\ngplrun play < TRACE"),
         status::READ_FAILED => eprintln!(rt; "gplrun: read"),
         status::WRITE_FAILED => eprintln!(rt; "gplrun: write"),
         status::NO_MEMORY => eprintln!(rt; "gplrun: memory"),
