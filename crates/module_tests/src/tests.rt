@@ -4,7 +4,8 @@ use crate::bad_modules::{
     VARIABLE_OF_AN_INTEGER,
 };
 use crate::samples::{LOOP_MODULE, NAMES_MODULE, SELECTION_MODULE};
-use spirv_model::{MAGIC, TypeFault, VERSION, Words, WordsFault};
+use spirv_model::{MAGIC, VERSION, Words, WordsFault};
+use valid_model::TypeFault;
 use spv_tree::{Block, End, Node, Run, TreeFault, flatten, tree_of};
 use spv_types::{Meaning, ids_of};
 use spv_words::{read_module, write_module};

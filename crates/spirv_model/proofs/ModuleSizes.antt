@@ -1,12 +1,14 @@
 -- How many instructions a module has.
-use Rattle.std.proofs.Common.{◌≡◌, ℕ, zero, suc, ◌≤◌, ◌/◌, ◌%◌, Bool, true, false, not, ◌&&◌, if◌then◌else◌, List, [], ◌∷◌, length, drop, slice_index, refl, ap, arith, length-drop}
+use Rattle.std.proofs.Common.{◌≡◌, ℕ, zero, suc, ◌≤◌, ◌/◌, ◌%◌, Bool, true, false, not, if◌then◌else◌, List, [], ◌∷◌, length, drop, slice_index, refl, ap, arith, length-drop}
 use Rattle.std.proofs.lemmas.Bool.{leb-true}
 use Rattle.std.proofs.lemmas.List.Filters.{length-filter_both}
 use Rattle.std.specs.Prelude.{Option, None, Some, Result, Ok, Err}
+use Rattle.limits.specs.declared.TheConstants.{MODULE_WORDS}
+use Rattle.basics.proofs.Bools.{first_of_both, second_of_both}
 use Rattle.spirv_model.specs.declared.module.Inst.{Inst}
 use Rattle.spirv_model.specs.declared.module.Words.{Words}
 use Rattle.spirv_model.specs.declared.module.WordsFault.{WordsFault}
-use Rattle.spirv_model.specs.declared.module.TheConstants.{HEADER_WORDS, WORDS_LIMIT}
+use Rattle.spirv_model.specs.declared.module.TheConstants.{HEADER_WORDS}
 use Rattle.spirv_model.specs.declared.module.WordsFault.TheVariants.{BadHeader}
 use Rattle.spirv_model.specs.Module.{Cut, Rest, rest_of, cut, begin, instruction_before, first_fault, list_of_cut, listed, is_skipped, with_bound, module_of, has_header}
 
@@ -45,21 +47,13 @@ bound_is : (bound : ℕ) (read : Result (List Inst) WordsFault) (m : Words) → 
 bound_is bound (Ok insts) m is = cc
 bound_is bound (Err fault) m is = cc
 
-left : (a b : Bool) → (a && b) ≡ true → a ≡ true
-left true b h = refl
-left false b h = cc
-
-right : (a b : Bool) → (a && b) ≡ true → b ≡ true
-right true b h = h
-right false b h = cc
-
 read_few : (header : Bool) (bound : ℕ) (read : Result (List Inst) WordsFault) (m : Words)
     → (if header then with_bound bound read else Err BadHeader) ≡ Ok m → (header ≡ true) × (read ≡ Ok m.insts)
 read_few true bound read m is = (refl, bound_is bound read m is)
 read_few false bound read m is = cc
 
 -- a module that is read has no more instructions than a module may have words
-pub few_instructions : (words : List ℕ) (m : Words) → module_of words ≡ Ok m → length m.insts ≤ WORDS_LIMIT
+pub few_instructions : (words : List ℕ) (m : Words) → module_of words ≡ Ok m → length m.insts ≤ MODULE_WORDS
 few_instructions words m is =
     let whole = read_few (has_header words) (slice_index words 3) (list_of_cut 0 (cut (drop HEADER_WORDS words))) m is in
     omega (
@@ -67,5 +61,5 @@ few_instructions words m is =
       list_few (cut (drop HEADER_WORDS words)) m.insts whole.1,
       rest_few (drop HEADER_WORDS words) 0,
       length-drop HEADER_WORDS words,
-      leb-true (length words) WORDS_LIMIT (right _ _ (left _ _ (left _ _ (left _ _ (left _ _ (left _ _ whole.0)))))),
+      leb-true (length words) MODULE_WORDS (second_of_both _ _ (first_of_both _ _ (first_of_both _ _ (first_of_both _ _ (first_of_both _ _ (first_of_both _ _ whole.0)))))),
     )

@@ -1,9 +1,2 @@
-pub mod Blocks
-pub mod Decorations
-pub mod Grammar
-pub mod Meanings
 pub mod Module
 pub mod Operands
-pub mod Scalars
-pub mod TreeFaults
-pub mod TypeFaults

@@ -2,6 +2,7 @@
 use Rattle.std.specs.Prelude.{◌≡◌, ℕ, zero, suc, ◌+◌, ◌*◌, ◌/◌, ◌%◌, Bool, true, false, not, ◌&&◌, ◌==◌, nat_lt, nat_le, if◌then◌else◌, List, [], ◌∷◌, length, drop, slice_index, Option, None, Some, is_none, Result, Ok, Err}
 use Rattle.std.specs.List.{filter, flat_map}
 use Rattle.std.specs.Option.{option_map}
+use Rattle.limits.specs.declared.TheConstants.{MODULE_WORDS, MAX_BOUND}
 use Rattle.spirv_model.specs.declared.module.Inst.{Inst}
 use Rattle.spirv_model.specs.declared.module.Words.{Words}
 use Rattle.spirv_model.specs.declared.module.WordsFault.{WordsFault}
@@ -9,7 +10,7 @@ use Rattle.spirv_model.specs.declared.module.WordsFault.TheVariants.{BadHeader, 
 use Rattle.spirv_model.specs.declared.table.Entry.{Entry}
 use Rattle.spirv_model.specs.declared.table.Entry.TheVariants.{Skipped, Float, Listed}
 use Rattle.spirv_model.specs.Operands.{entry_of, kinds}
-use Rattle.spirv_model.specs.declared.module.TheConstants.{MAGIC, VERSION, HEADER_WORDS, WORDS_LIMIT, BOUND_LIMIT}
+use Rattle.spirv_model.specs.declared.module.TheConstants.{MAGIC, VERSION, HEADER_WORDS}
 
 -- the instructions up to the end of the words, or up to the first that can't be cut and why it can't
 pub record Cut : Type 0 where
@@ -60,9 +61,9 @@ is_version word = (word % 256 == 0) && (word / 65536 == 1) && nat_le (word / 256
 -- the first five words are a header, and there aren't too many words
 abbrev pub has_header : List ℕ → Bool
 has_header words =
-    nat_le HEADER_WORDS (length words) && nat_le (length words) WORDS_LIMIT
+    nat_le HEADER_WORDS (length words) && nat_le (length words) MODULE_WORDS
     && (slice_index words 0 == MAGIC) && is_version (slice_index words 1)
-    && nat_lt 0 (slice_index words 3) && nat_le (slice_index words 3) BOUND_LIMIT
+    && nat_lt 0 (slice_index words 3) && nat_le (slice_index words 3) MAX_BOUND
     && (slice_index words 4 == 0)
 
 -- the entry is that of an opcode without a place in the list, of one with a place, or of OpTypeFloat

@@ -12,6 +12,14 @@ use Rattle.spirv_model.specs.declared.table.Entry.TheVariants.{Listed}
 use Rattle.spirv_model.specs.declared.table.Row.{Row}
 use Rattle.spirv_model.specs.declared.table.TheConstants.{ROWS}
 
+-- a word of an instruction behind its first word, or 0 past the end
+abbrev pub word_at : ℕ → Inst → ℕ
+word_at place inst = slice_index inst.words place
+
+-- its words from a place on
+abbrev pub words_from : ℕ → Inst → List ℕ
+words_from place inst = drop place inst.words
+
 -- the entry of the row with this opcode
 abbrev pub entry_in : List Row → ℕ → Option Entry
 entry_in [] op = None

@@ -17,12 +17,3 @@ pub const BINDING: u32 = 33;
 pub const DESCRIPTOR_SET: u32 = 34;
 
 pub const OFFSET: u32 = 35;
-
-/// The locations of an interface are 0 up to this number.
-pub const LOCATIONS: u32 = 8;
-
-/// The descriptor sets are 0 up to this number.
-pub const SETS: u32 = 4;
-
-/// The bindings of a descriptor set are 0 up to this number.
-pub const BINDINGS: u32 = 8;

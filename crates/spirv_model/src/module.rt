@@ -1,4 +1,5 @@
 ghost use Rattle.std.specs.Prelude.{◌≡◌};
+ghost use Rattle.spirv_model.specs.Operands.{word_at, words_from};
 ghost use Rattle.spirv_model.specs.declared.module.WordsFault.TheVariants.{Memory};
 
 use sqlite_items::Items;
@@ -11,23 +12,35 @@ pub const MAGIC: u32 = 0x0723_0203;
 /// The words of the header: magic, version, generator, bound and schema.
 pub const HEADER_WORDS: usize = 5;
 
-/// The most words that a module may have, its header among them.
-pub const WORDS_LIMIT: usize = 16_384;
-
 /// The most words that an instruction may have after its first, since its word count has 16 bits.
 pub const OPERAND_WORDS_LIMIT: usize = 65_534;
 
 /// The version of a module that is written: 1.0.
 pub const VERSION: u32 = 0x0001_0000;
 
-/// The greatest id bound.
-pub const BOUND_LIMIT: u32 = 65_536;
-
 /// One instruction: its opcode, and its words after the first.
 #[derive(Debug, Drop)]
 pub struct Inst {
     pub op: u16,
     pub words: Items<u32>,
+}
+
+impl Inst {
+    /// The word at a place behind the first word, or 0 past the end.
+    pub fn word(&self, place: usize) -> u32
+        ensures { result ≡ word_at place self.now }
+    {
+        self.words.as_slice().get(place).copied().unwrap_or(0)
+    }
+
+    /// The words from a place behind the first word on.
+    pub fn words_from(&self, place: usize) -> &[u32]
+        ensures { result.now ≡ words_from place self.now }
+    {
+        let words = self.words.as_slice();
+        let (_, after) = words.split_at(words.len().min(place));
+        after
+    }
 }
 
 /// The instructions of a module in their order, and its id bound.

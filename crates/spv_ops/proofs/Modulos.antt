@@ -3,7 +3,7 @@ use Rattle.std.proofs.Common.{◌≡◌, ℕ, zero, suc, ◌+◌, ◌-◌, ◌%�
 use Rattle.std.proofs.lemmas.Int.{ints}
 use Rattle.std.proofs.Math.Nat.{suc-mod, mod_self, mod-lt, mod-eq_of_lt, zero-mod, eq-or-lt_of_le}
 use Rattle.std.specs.Int.{int_rem_euclid}
-use Rattle.spirv_model.specs.Scalars.{modulo}
+use Rattle.scalar_model.specs.Scalars.{modulo}
 
 -- how far a number is above one multiple of n + 1, and how far below another: nothing, or together n + 1
 abbrev Distances : (above below n : ℕ) → Type 0

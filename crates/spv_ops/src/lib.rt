@@ -3,14 +3,14 @@
 
 ghost use Rattle.std.specs.Prelude.{◌≡◌, IsSome};
 ghost use Rattle.std.specs.Option.{option_or, option_map};
-ghost use Rattle.spirv_model.specs.Scalars.{scalar_result, folded, selected, word_from_words, comparison};
-ghost use Rattle.spirv_model.specs.declared.scalar_value.Scalar.TheVariants.{Bool as Truth, Word};
+ghost use Rattle.scalar_model.specs.Scalars.{scalar_result, folded, selected, word_from_words, comparison};
+ghost use Rattle.scalar_model.specs.declared.scalar_value.Scalar.TheVariants.{Bool as Truth, Word};
 
 mod truths;
 mod words;
 
 use Scalar::{Bool, Word};
-pub use spirv_model::Scalar;
+pub use scalar_model::Scalar;
 use spirv_model::op;
 use truths::{comparison, truth_from_truth, truth_from_truths};
 use words::{word_from_word, word_from_words};
@@ -28,7 +28,7 @@ pub fn apply(op: u16, args: &[Scalar]) -> Scalar
 
 /// The result as `apply` gives it. `None` where the opcode is that of no scalar operation, an operand isn't known, or the
 /// operands don't fit the operation.
-#[tactic(auto, unfolding(spirv_model::specs::Scalars::scalar_result))]
+#[tactic(auto, unfolding(scalar_model::specs::Scalars::scalar_result))]
 pub fn fold_one(op: u16, args: &[Option<Scalar>]) -> Option<Scalar>
     ensures { result ≡ folded op args.now }
 {
@@ -40,7 +40,7 @@ pub fn fold_one(op: u16, args: &[Option<Scalar>]) -> Option<Scalar>
     }
 }
 
-#[tactic(auto, unfolding(spirv_model::specs::Scalars::scalar_result))]
+#[tactic(auto, unfolding(scalar_model::specs::Scalars::scalar_result))]
 fn result_of(op: u16, args: &[Scalar]) -> Option<Scalar>
     ensures { result ≡ scalar_result op args.now }
 {

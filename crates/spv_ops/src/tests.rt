@@ -9,7 +9,7 @@ const MINUS_7: u32 = 0xffff_fff9;
 const LEAST: u32 = 0x8000_0000;
 
 #[test]
-#[tactic(auto, unfolding(spirv_model::specs::Scalars::scalar_result, spirv_model::specs::Scalars::arithmetic))]
+#[tactic(auto, unfolding(scalar_model::specs::Scalars::scalar_result, scalar_model::specs::Scalars::arithmetic))]
 fn quotients_that_are_undefined_have_values(rt: HostRuntime) {
     let overflow = [Word(LEAST), Word(MINUS_1)];
     assert_eq!(rt; apply(op::S_DIV, &overflow), Word(LEAST));

@@ -1,11 +1,11 @@
 //! The operations that make a truth value.
 ghost use Rattle.std.specs.Prelude.{◌≡◌};
 ghost use Rattle.std.specs.Option.{option_map};
-ghost use Rattle.spirv_model.specs.Scalars.{comparison, truth_from_truth, truth_from_truths};
+ghost use Rattle.scalar_model.specs.Scalars.{comparison, truth_from_truth, truth_from_truths};
 
 use spirv_model::op;
 
-#[tactic(auto, unfolding(spirv_model::specs::Scalars::truth_from_truth))]
+#[tactic(auto, unfolding(scalar_model::specs::Scalars::truth_from_truth))]
 pub fn truth_from_truth(op: u16, truth: bool) -> Option<bool>
     ensures { result ≡ option_map (λ f. f truth) (truth_from_truth op) }
 {
@@ -15,7 +15,7 @@ pub fn truth_from_truth(op: u16, truth: bool) -> Option<bool>
     }
 }
 
-#[tactic(auto, unfolding(spirv_model::specs::Scalars::truth_from_truths))]
+#[tactic(auto, unfolding(scalar_model::specs::Scalars::truth_from_truths))]
 pub fn truth_from_truths(op: u16, left: bool, right: bool) -> Option<bool>
     ensures { result ≡ option_map (λ f. f left right) (truth_from_truths op) }
 {
@@ -28,7 +28,7 @@ pub fn truth_from_truths(op: u16, left: bool, right: bool) -> Option<bool>
     }
 }
 
-#[tactic(auto, unfolding(spirv_model::specs::Scalars::comparison))]
+#[tactic(auto, unfolding(scalar_model::specs::Scalars::comparison))]
 pub fn comparison(op: u16, left: u32, right: u32) -> Option<bool>
     ensures { result ≡ option_map (λ f. f left right) (comparison op) }
 {

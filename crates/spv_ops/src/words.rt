@@ -1,12 +1,13 @@
 //! The operations that make a word.
 ghost use Rattle.std.specs.Prelude.{◌≡◌};
 ghost use Rattle.std.specs.Option.{option_map};
-ghost use Rattle.spirv_model.specs.Scalars.{word_from_word, word_from_words, arithmetic, bitwise, signed, signed_quotient, signed_remainder, modulo, signed_modulo, shifted, sign_in_every_bit, divided, word_of};
+ghost use Rattle.scalar_model.specs.Scalars.{word_from_word, word_from_words, arithmetic, bitwise, signed_quotient, signed_remainder, modulo, signed_modulo, shifted, sign_in_every_bit, divided};
+ghost use Rattle.basics.specs.Word.{signed_word, word_of};
 ghost use Rattle.std.specs.Int.{w32, int_shr, IsNonZero};
 
 use spirv_model::op;
 
-#[tactic(auto, unfolding(spirv_model::specs::Scalars::word_from_word))]
+#[tactic(auto, unfolding(scalar_model::specs::Scalars::word_from_word))]
 pub fn word_from_word(op: u16, word: u32) -> Option<u32>
     ensures { result ≡ option_map (λ f. f word) (word_from_word op) }
 {
@@ -24,7 +25,7 @@ pub fn word_from_words(op: u16, left: u32, right: u32) -> Option<u32>
     arithmetic(op, left, right).or(bitwise(op, left, right))
 }
 
-#[tactic(auto, unfolding(spirv_model::specs::Scalars::arithmetic))]
+#[tactic(auto, unfolding(scalar_model::specs::Scalars::arithmetic))]
 fn arithmetic(op: u16, left: u32, right: u32) -> Option<u32>
     ensures { result ≡ option_map (λ f. f left right) (arithmetic op) }
 {
@@ -90,7 +91,7 @@ fn modulo(dividend: i32, divisor: i32) -> i32
     }
 }
 
-#[tactic(auto, unfolding(spirv_model::specs::Scalars::bitwise))]
+#[tactic(auto, unfolding(scalar_model::specs::Scalars::bitwise))]
 fn bitwise(op: u16, left: u32, right: u32) -> Option<u32>
     ensures { result ≡ option_map (λ f. f left right) (bitwise op) }
 {
@@ -106,7 +107,7 @@ fn bitwise(op: u16, left: u32, right: u32) -> Option<u32>
 }
 
 fn shift_right_arithmetic(word: u32, bits: u32) -> u32
-    ensures { result ≡ shifted (λ a k. word_of (int_shr (signed a) k)) sign_in_every_bit word bits }
+    ensures { result ≡ shifted (λ a k. word_of (int_shr (signed_word a) k)) sign_in_every_bit word bits }
 {
     word.cast_signed().unbounded_shr(bits).cast_unsigned()
 }

@@ -1,15 +1,16 @@
 -- What is known of a block's end: the place after it, and whether the label that has to stand there is known.
-use Rattle.std.proofs.Common.{◌≡◌, ℕ, ◌+◌, ◌-◌, ◌<◌, ◌≤◌, Bool, true, false, nat_le, ◌==◌, ◌||◌, ◌&&◌, if◌then◌else◌, List, [], ◌∷◌, length, drop, slice_index, Option, None, Some, refl, sym, arith, length-drop}
+use Rattle.std.proofs.Common.{◌≡◌, ℕ, ◌+◌, ◌-◌, ◌<◌, ◌≤◌, Bool, true, false, nat_le, ◌==◌, ◌||◌, ◌&&◌, if◌then◌else◌, List, [], ◌∷◌, length, drop, Option, None, Some, refl, sym, arith, length-drop}
 use Rattle.std.proofs.lemmas.Bool.Decides.{nat_tests}
 use Rattle.spirv_model.specs.declared.module.Inst.{Inst}
+use Rattle.spirv_model.specs.Operands.{word_at}
 use Rattle.spirv_model.specs.declared.op.TheConstants.{PHI, VARIABLE, LOOP_MERGE, SELECTION_MERGE, BRANCH, BRANCH_CONDITIONAL, KILL, RETURN, UNREACHABLE}
-use Rattle.spirv_model.specs.declared.grammar.TheConstants.{NESTING_LIMIT}
-use Rattle.spirv_model.specs.declared.grammar.Scope.{Scope}
-use Rattle.spirv_model.specs.declared.grammar.End.{End}
-use Rattle.spirv_model.specs.declared.grammar.BlockEnd.{BlockEnd}
-use Rattle.spirv_model.specs.declared.grammar.BlockEnd.TheVariants.{Broken, Ends, GoesOn, Selects, Loops}
-use Rattle.spirv_model.specs.declared.grammar.TreeFault.{TreeFault}
-use Rattle.spirv_model.specs.Blocks.{is_plain, is_terminator, leads_to_loop, exit_to, branch_end, test_end, terminator_end, unmerged, selection_end, loop_branch, last_part, rest_of_block, block_end, block_from}
+use Rattle.limits.specs.declared.TheConstants.{NESTING}
+use Rattle.body_model.specs.declared.grammar.Scope.{Scope}
+use Rattle.body_model.specs.declared.grammar.End.{End}
+use Rattle.body_model.specs.declared.grammar.BlockEnd.{BlockEnd}
+use Rattle.body_model.specs.declared.grammar.BlockEnd.TheVariants.{Broken, Ends, GoesOn, Selects, Loops}
+use Rattle.body_model.specs.declared.grammar.TreeFault.{TreeFault}
+use Rattle.body_model.specs.Blocks.{is_plain, is_terminator, leads_to_loop, exit_to, branch_end, test_end, terminator_end, unmerged, selection_end, loop_branch, last_part, rest_of_block, block_end, block_from}
 
 -- what holds of the label behind each end that the scope allows
 pub record Leaves (F : Option ℕ → Type 0) (scope : Scope) : Type 0 where
@@ -26,8 +27,8 @@ abbrev pub Sound : (Option ℕ → Type 0) → Scope → ℕ → ℕ → BlockEn
 Sound F scope place past (Broken fault) = Unit {0}
 Sound F scope place past (Ends end next after) = Between place past after × F next
 Sound F scope place past (GoesOn after) = Between place past after
-Sound F scope place past (Selects cond merge on_true on_false after) = Between place past after × (scope.depth < NESTING_LIMIT)
-Sound F scope place past (Loops header merge next test after) = Between place past after × (scope.depth < NESTING_LIMIT)
+Sound F scope place past (Selects cond merge on_true on_false after) = Between place past after × (scope.depth < NESTING)
+Sound F scope place past (Loops header merge next test after) = Between place past after × (scope.depth < NESTING)
 
 pub record IsSound (F : Option ℕ → Type 0) (scope : Scope) (place past : ℕ) (end : BlockEnd) : Type 0 where
   pub is : Sound F scope place past end
@@ -45,7 +46,7 @@ by_case F scope place other past same (Loops header merge next test after) befor
 sound_earlier : (F : Option ℕ → Type 0) (scope : Scope) (place other past : ℕ) (end : BlockEnd) → place ≤ other → IsSound F scope other past end → IsSound F scope place past end
 sound_earlier F scope place other past end before sound = record { is = by_case F scope place other past past end before refl sound.is }
 
-below_limit : (depth : ℕ) → nat_le NESTING_LIMIT depth ≡ false → depth < NESTING_LIMIT
+below_limit : (depth : ℕ) → nat_le NESTING depth ≡ false → depth < NESTING
 below_limit depth is = grind (arith, nat_tests)
 
 sound_if : {F : Option ℕ → Type 0} {scope : Scope} {place past : ℕ} {x y : BlockEnd} (b : Bool) → IsSound F scope place past x → IsSound F scope place past y
@@ -90,8 +91,8 @@ sound_unmerged F scope [] place past = broken
 sound_unmerged F scope (inst ∷ rest) place past = sound_if (is_terminator inst.op) broken broken
 
 -- a construct opens only where fewer are open than may be
-sound_open : {F : Option ℕ → Type 0} {scope : Scope} {place past : ℕ} {opens : BlockEnd} (fault : TreeFault) (full : Bool) → full ≡ nat_le NESTING_LIMIT scope.depth
-    → (scope.depth < NESTING_LIMIT → IsSound F scope place past opens) → IsSound F scope place past (if full then Broken fault else opens)
+sound_open : {F : Option ℕ → Type 0} {scope : Scope} {place past : ℕ} {opens : BlockEnd} (fault : TreeFault) (full : Bool) → full ≡ nat_le NESTING scope.depth
+    → (scope.depth < NESTING → IsSound F scope place past opens) → IsSound F scope place past (if full then Broken fault else opens)
 sound_open fault true is some = broken
 sound_open {scope = scope} fault false is some = some (below_limit scope.depth (sym is))
 
@@ -100,8 +101,8 @@ sound_selection : (F : Option ℕ → Type 0) (scope : Scope) (merge : ℕ) (res
 sound_selection F scope merge [] place past within = broken
 sound_selection F scope merge (inst ∷ rest) place past within =
     sound_if (inst.op == BRANCH_CONDITIONAL)
-    (sound_open _ (nat_le NESTING_LIMIT scope.depth) refl
-    (λ few. sound_if ((slice_index inst.words 1 == slice_index inst.words 2) && (if slice_index inst.words 1 == merge then false else true)) broken (record { is = (record { forward = omega arith; within = omega arith }, few) })))
+    (sound_open _ (nat_le NESTING scope.depth) refl
+    (λ few. sound_if ((word_at 1 inst == word_at 2 inst) && (if word_at 1 inst == merge then false else true)) broken (record { is = (record { forward = omega arith; within = omega arith }, few) })))
     (sound_unmerged F scope (inst ∷ rest) place past)
 
 sound_loop : (F : Option ℕ → Type 0) (scope : Scope) (header merge next : ℕ) (rest : List Inst) (place past : ℕ) → place + 1 + length rest ≤ past
@@ -109,7 +110,7 @@ sound_loop : (F : Option ℕ → Type 0) (scope : Scope) (header merge next : �
 sound_loop F scope header merge next [] place past within = broken
 sound_loop F scope header merge next (inst ∷ rest) place past within =
     sound_if (inst.op == BRANCH)
-    (sound_open _ (nat_le NESTING_LIMIT scope.depth) refl (λ few. record { is = (record { forward = omega arith; within = omega arith }, few) }))
+    (sound_open _ (nat_le NESTING scope.depth) refl (λ few. record { is = (record { forward = omega arith; within = omega arith }, few) }))
     (sound_unmerged F scope (inst ∷ rest) place past)
 
 sound_last_part : (F : Option ℕ → Type 0) (scope : Scope) (label : ℕ) (inst : Inst) (rest : List Inst) (place past : ℕ) → Leaves F scope → place + 1 + length rest ≤ past

@@ -8,12 +8,12 @@ use Rattle.std.proofs.lemmas.Bool.{eqb-true, cases_lt}
 use Rattle.std.proofs.lemmas.Option.{slice_get_past, slice_get_read, unwrap_or-slice_get}
 use Rattle.spirv_model.specs.declared.module.Inst.{Inst}
 use Rattle.spirv_model.specs.declared.op.TheConstants.{FUNCTION, FUNCTION_END}
-use Rattle.spirv_model.specs.declared.grammar.Scope.{Scope}
-use Rattle.spirv_model.specs.declared.grammar.TreeFault.{TreeFault}
-use Rattle.spirv_model.specs.declared.grammar.TreeFault.TheVariants.{BadBlock, BadMerge, BadExit, TooDeep, Memory}
-use Rattle.spirv_model.specs.Blocks.{is_module_level}
-use Rattle.spirv_model.specs.Grammar.{Derives, IsOp, main}
-use Rattle.spirv_model.specs.TreeFaults.{due, walk, walk_module, closing, tree_fault}
+use Rattle.body_model.specs.declared.grammar.Scope.{Scope}
+use Rattle.body_model.specs.declared.grammar.TreeFault.{TreeFault}
+use Rattle.body_model.specs.declared.grammar.TreeFault.TheVariants.{BadBlock, BadMerge, BadExit, TooDeep, Memory}
+use Rattle.body_model.specs.Blocks.{is_module_level}
+use Rattle.body_model.specs.Grammar.{Derives, IsOp, main}
+use Rattle.body_model.specs.TreeFaults.{due, walk, walk_module, closing, tree_fault}
 use Rattle.spv_tree.specs.declared.tree.Body.{Body}
 use Rattle.spv_tree.specs.declared.tree.Run.{Run}
 use Rattle.spv_tree.specs.Views.{IsFault, Finds}

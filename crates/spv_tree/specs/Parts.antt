@@ -1,16 +1,17 @@
 -- What the parts of the reader keep.
-use Rattle.std.specs.Prelude.{◌≡◌, ℕ, ◌+◌, ◌<◌, ◌≤◌, Bool, false, ◌==◌, ◌&&◌, if◌then◌else◌, List, [], ◌∷◌, ◌++◌, length, take, drop, slice_index, slice_index_or, slice_get, All, IsTrue, Option, None, Some, Result, Ok, Err}
+use Rattle.std.specs.Prelude.{◌≡◌, ℕ, ◌+◌, ◌<◌, ◌≤◌, Bool, false, ◌==◌, ◌&&◌, if◌then◌else◌, List, [], ◌∷◌, ◌++◌, length, take, drop, slice_index_or, slice_get, All, IsTrue, Option, None, Some, Result, Ok, Err}
 use Rattle.spirv_model.specs.declared.module.Inst.{Inst}
+use Rattle.spirv_model.specs.Operands.{word_at}
 use Rattle.spirv_model.specs.declared.op.TheConstants.{LABEL, FUNCTION, FUNCTION_END}
-use Rattle.spirv_model.specs.declared.grammar.TheConstants.{NESTING_LIMIT}
-use Rattle.spirv_model.specs.declared.grammar.Scope.{Scope}
-use Rattle.spirv_model.specs.declared.grammar.BlockEnd.{BlockEnd}
-use Rattle.spirv_model.specs.declared.grammar.BlockEnd.TheVariants.{Broken, Ends, GoesOn, Selects, Loops}
-use Rattle.spirv_model.specs.declared.grammar.TreeFault.{TreeFault}
-use Rattle.spirv_model.specs.declared.grammar.TreeFault.TheVariants.{BadBlock, BadMerge}
-use Rattle.spirv_model.specs.Blocks.{is_module_level, has_label, block_end}
-use Rattle.spirv_model.specs.Grammar.{Sequence, Arm, IsDue, IsOp, condition, body, continuing}
-use Rattle.spirv_model.specs.TreeFaults.{Due, due, due_arm, walk, tree_fault}
+use Rattle.limits.specs.declared.TheConstants.{NESTING}
+use Rattle.body_model.specs.declared.grammar.Scope.{Scope}
+use Rattle.body_model.specs.declared.grammar.BlockEnd.{BlockEnd}
+use Rattle.body_model.specs.declared.grammar.BlockEnd.TheVariants.{Broken, Ends, GoesOn, Selects, Loops}
+use Rattle.body_model.specs.declared.grammar.TreeFault.{TreeFault}
+use Rattle.body_model.specs.declared.grammar.TreeFault.TheVariants.{BadBlock, BadMerge}
+use Rattle.body_model.specs.Blocks.{is_module_level, has_label, block_end}
+use Rattle.body_model.specs.Grammar.{Sequence, Arm, IsDue, IsOp, condition, body, continuing}
+use Rattle.body_model.specs.TreeFaults.{Due, due, due_arm, walk, tree_fault}
 use Rattle.spv_tree.specs.declared.sequence.Part.{Part}
 use Rattle.spv_tree.specs.declared.sequence.Way.{Way}
 use Rattle.spv_tree.specs.declared.sequence.Built.{Built}
@@ -22,7 +23,7 @@ use Rattle.spv_tree.specs.Trees.{choice, round, run_of, arm_of}
 
 -- at the place stands an OpLabel whose label stood before
 abbrev pub repeats : List Inst → ℕ → Bool
-repeats insts place = elim (slice_get insts place) [ None ↦ false | Some inst ↦ (inst.op == LABEL) && has_label (take place insts) (slice_index inst.words 0) ]
+repeats insts place = elim (slice_get insts place) [ None ↦ false | Some inst ↦ (inst.op == LABEL) && has_label (take place insts) (word_at 0 inst) ]
 
 -- the places with a label that stood before are marked
 pub record MarksLabels (insts : List Inst) (marks : List Bool) : Type 0 where
@@ -33,7 +34,7 @@ pub record MarksLabels (insts : List Inst) (marks : List Bool) : Type 0 where
 abbrev pub misses : Inst → Bool → Option ℕ → ℕ → Option TreeFault
 misses inst is_repeated wanted place =
     if inst.op == LABEL
-    then (if is_repeated then Some (BadBlock place) else elim wanted [ None ↦ None | Some label ↦ if slice_index inst.words 0 == label then None else Some (BadMerge place) ])
+    then (if is_repeated then Some (BadBlock place) else elim wanted [ None ↦ None | Some label ↦ if word_at 0 inst == label then None else Some (BadMerge place) ])
     else if inst.op == FUNCTION_END then elim wanted [ None ↦ Some (BadBlock place) | Some label ↦ Some (BadMerge place) ]
     else Some (BadBlock place)
 
@@ -55,7 +56,7 @@ pub record Stands (insts : List Inst) (scope : Scope) (wanted : Option ℕ) (pla
 -- a block that may open a selection or a loop
 pub record Opens (insts : List Inst) (scope : Scope) (wanted : Option ℕ) (place after : ℕ) (end : BlockEnd) : Type 0 where
   pub stands : Stands insts scope wanted place after end
-  pub depth : scope.depth < NESTING_LIMIT
+  pub depth : scope.depth < NESTING
 
 -- how the block that is due ends, or why there is none
 abbrev pub IsBlock : List Inst → Scope → Option ℕ → ℕ → BlockEnd → Type 0

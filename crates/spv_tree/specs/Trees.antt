@@ -1,10 +1,11 @@
 -- The tree of a function's derivation, and the instructions of its blocks on the flat list.
-use Rattle.std.specs.Prelude.{◌≡◌, ℕ, ◌-◌, ◌==◌, if◌then◌else◌, List, [], ◌∷◌, length, take, slice_get, slice_index, Option, None, Some}
+use Rattle.std.specs.Prelude.{◌≡◌, ℕ, ◌-◌, ◌==◌, if◌then◌else◌, List, [], ◌∷◌, length, take, slice_get, Option, None, Some}
 use Rattle.spirv_model.specs.declared.module.Inst.{Inst}
+use Rattle.spirv_model.specs.Operands.{word_at}
 use Rattle.spirv_model.specs.declared.op.TheConstants.{FUNCTION}
-use Rattle.spirv_model.specs.declared.grammar.Scope.{Scope}
-use Rattle.spirv_model.specs.declared.grammar.End.{End}
-use Rattle.spirv_model.specs.Grammar.{Sequence, ends, goes_on, selects, loops, Arm, straight, through, Derives}
+use Rattle.body_model.specs.declared.grammar.Scope.{Scope}
+use Rattle.body_model.specs.declared.grammar.End.{End}
+use Rattle.body_model.specs.Grammar.{Sequence, ends, goes_on, selects, loops, Arm, straight, through, Derives}
 use Rattle.spv_tree.specs.declared.tree.Body.{Body}
 use Rattle.spv_tree.specs.declared.tree.Run.{Run, roll-Run}
 use Rattle.spv_tree.specs.declared.tree.Choice.{roll-Choice}
@@ -15,7 +16,7 @@ use Rattle.spv_tree.specs.declared.tree.Node.TheVariants as node
 
 abbrev pub first_word : Option Inst → ℕ
 first_word None = 0
-first_word (Some inst) = slice_index inst.words 0
+first_word (Some inst) = word_at 0 inst
 
 -- the block from its OpLabel at a place up to the place after its terminator
 abbrev pub block_at : List Inst → ℕ → ℕ → Block

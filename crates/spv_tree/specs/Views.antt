@@ -1,7 +1,7 @@
 -- What an answer says of the first fault.
 use Rattle.std.specs.Prelude.{◌≡◌, Option, None, Some, Result, Ok, Err}
-use Rattle.spirv_model.specs.declared.grammar.TreeFault.{TreeFault}
-use Rattle.spirv_model.specs.declared.grammar.TreeFault.TheVariants.{Memory}
+use Rattle.body_model.specs.declared.grammar.TreeFault.{TreeFault}
+use Rattle.body_model.specs.declared.grammar.TreeFault.TheVariants.{Memory}
 use Rattle.spv_tree.specs.declared.tree.Body.{Body}
 
 -- the fault is the one that was found, or memory ran out

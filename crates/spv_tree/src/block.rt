@@ -1,17 +1,11 @@
-ghost use Rattle.std.specs.Prelude.{◌≡◌, ◌+◌, ◌<◌, ◌≤◌, ◌^◌, if◌then◌else◌, length, slice_index};
-ghost use Rattle.spirv_model.specs.declared.grammar.BlockEnd.TheVariants.{Ends, Broken};
-ghost use Rattle.spirv_model.specs.declared.grammar.TreeFault.TheVariants.{BadExit};
-ghost use Rattle.spirv_model.specs.Blocks as spec;
+ghost use Rattle.std.specs.Prelude.{◌≡◌, ◌+◌, ◌<◌, ◌≤◌, ◌^◌, if◌then◌else◌, length};
+ghost use Rattle.body_model.specs.declared.grammar.BlockEnd.TheVariants.{Ends, Broken};
+ghost use Rattle.body_model.specs.declared.grammar.TreeFault.TheVariants.{BadExit};
+ghost use Rattle.body_model.specs.Blocks as spec;
 
-use spirv_model::grammar::{BlockEnd, End, LoopExits, NESTING_LIMIT, Scope, TreeFault};
+use body_model::grammar::{BlockEnd, End, LoopExits, Scope, TreeFault};
+use limits::NESTING;
 use spirv_model::{Inst, op};
-
-/// The operand word of an instruction, or 0 where it has none.
-pub fn operand(inst: &Inst, at: usize) -> u32
-    ensures { result ≡ slice_index inst.now.words at }
-{
-    inst.words.as_slice().get(at).copied().unwrap_or(0)
-}
 
 pub fn is_module_level(op: u16) -> bool
     ensures { result ≡ spec.is_module_level op }
@@ -65,7 +59,7 @@ fn begins_with(label: u32, rest: &[Inst]) -> bool
     let Some((inst, _)) = rest.split_first() else {
         return false;
     };
-    inst.op == op::LABEL && operand(inst, 0) == label
+    inst.op == op::LABEL && inst.word(0) == label
 }
 
 fn is_some(known: Option<u32>, label: u32) -> bool
@@ -172,14 +166,14 @@ fn terminator_end(scope: Scope, inst: &Inst, rest: &[Inst], place: u32) -> Block
 {
     match inst.op {
         op::BRANCH => {
-            let label = operand(inst, 0);
+            let label = inst.word(0);
             branch_end(exit_to(scope, label), begins_with(label, rest), place)
         }
         op::BRANCH_CONDITIONAL => test_end(
             scope.test,
-            operand(inst, 0),
-            operand(inst, 1),
-            operand(inst, 2),
+            inst.word(0),
+            inst.word(1),
+            inst.word(2),
             place,
         ),
         op::RETURN | op::UNREACHABLE => last_end(scope.may_end, End::Return, place),
@@ -212,7 +206,7 @@ fn selection_targets(
     requires { place + 2 < 2 ^ 32 }
     ensures { result ≡ spec.selection_targets scope merge cond on_true on_false place }
 {
-    if scope.depth >= NESTING_LIMIT {
+    if scope.depth >= NESTING {
         return BlockEnd::Broken(TreeFault::TooDeep(place));
     }
     if on_true == on_false && on_true != merge {
@@ -238,15 +232,8 @@ fn selection_end(scope: Scope, merge: u32, rest: &[Inst], place: u32) -> BlockEn
     if inst.op != op::BRANCH_CONDITIONAL {
         return unmerged(rest, place);
     }
-    let cond = operand(inst, 0);
-    selection_targets(
-        scope,
-        merge,
-        cond,
-        operand(inst, 1),
-        operand(inst, 2),
-        place,
-    )
+    let cond = inst.word(0);
+    selection_targets(scope, merge, cond, inst.word(1), inst.word(2), place)
 }
 
 fn loop_branch(
@@ -266,35 +253,28 @@ fn loop_branch(
     if inst.op != op::BRANCH {
         return unmerged(rest, place);
     }
-    if NESTING_LIMIT <= scope.depth {
+    if NESTING <= scope.depth {
         return BlockEnd::Broken(TreeFault::TooDeep(place));
     }
     BlockEnd::Loops {
         header,
         merge,
         next,
-        test: operand(inst, 0),
+        test: inst.word(0),
         after: place + 2,
     }
 }
 
 /// The merge instruction or the terminator of the block with this label.
-#[tactic(auto, unfolding(spirv_model::specs::Blocks::last_part))]
+#[tactic(auto, unfolding(body_model::specs::Blocks::last_part))]
 fn last_part(scope: Scope, label: u32, inst: &Inst, rest: &[Inst], place: u32) -> BlockEnd
     requires { place + 1 + length rest.now < 2 ^ 32 }
     ensures { result ≡ spec.last_part scope label inst.now rest.now place }
 {
     match inst.op {
-        op::SELECTION_MERGE => selection_end(scope, operand(inst, 0), rest, place),
+        op::SELECTION_MERGE => selection_end(scope, inst.word(0), rest, place),
         op::LOOP_MERGE if !scope.may_loop => BlockEnd::Broken(TreeFault::BadMerge(place)),
-        op::LOOP_MERGE => loop_branch(
-            scope,
-            label,
-            operand(inst, 0),
-            operand(inst, 1),
-            rest,
-            place,
-        ),
+        op::LOOP_MERGE => loop_branch(scope, label, inst.word(0), inst.word(1), rest, place),
         _ => terminator_end(scope, inst, rest, place),
     }
 }
@@ -333,7 +313,7 @@ fn rest_of_block(scope: Scope, label: u32, rest: &[Inst], place: u32) -> BlockEn
 }
 
 /// How the block at a place ends. The instruction there is its OpLabel.
-#[tactic(auto, unfolding(spirv_model::specs::Blocks::block_end))]
+#[tactic(auto, unfolding(body_model::specs::Blocks::block_end))]
 pub fn block_end(insts: &[Inst], scope: Scope, place: u32) -> BlockEnd
     requires within { place ≤ length insts.now }
     requires few { length insts.now < 2 ^ 32 }
@@ -343,5 +323,5 @@ pub fn block_end(insts: &[Inst], scope: Scope, place: u32) -> BlockEnd
     let Some((first, rest)) = block.split_first() else {
         return BlockEnd::Broken(TreeFault::BadBlock(place));
     };
-    rest_of_block(scope, operand(first, 0), rest, place + 1)
+    rest_of_block(scope, first.word(0), rest, place + 1)
 }

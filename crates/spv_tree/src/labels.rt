@@ -1,13 +1,13 @@
-ghost use Rattle.std.specs.Prelude.{◌≡◌, ℕ, ◌==◌, ◌&&◌, ◌||◌, IfOk, OnOk, slice_index};
+ghost use Rattle.std.specs.Prelude.{◌≡◌, ℕ, ◌==◌, ◌&&◌, ◌||◌, IfOk, OnOk};
 ghost use Rattle.std.specs.Ordering.{nat_cmp};
 ghost use Rattle.std.specs.BTreeSet.{contains};
 ghost use Rattle.spirv_model.specs.declared.op.TheConstants.{LABEL};
-ghost use Rattle.spirv_model.specs.Blocks as spec;
+ghost use Rattle.spirv_model.specs.Operands.{word_at};
+ghost use Rattle.body_model.specs.Blocks as spec;
 ghost use Rattle.spv_tree.specs.Parts as parts;
 ghost use Rattle.spv_tree.specs.Parts.{MarksLabels};
 
-use crate::block::operand;
-use spirv_model::grammar::TreeFault;
+use body_model::grammar::TreeFault;
 use spirv_model::{Inst, op};
 use std::alloc::{AllocError, Global};
 use std::collections::BTreeSet;
@@ -27,14 +27,14 @@ pub fn repeated_labels(alloc: Global, insts: &[Inst]) -> Result<Vec<bool>, Alloc
 
 /// Whether the instruction is an OpLabel of a label that was seen. It is seen from now on.
 fn see(seen: &mut BTreeSet<u32>, inst: &Inst) -> Result<bool, AllocError>
-    ensures before { IfOk result (λ is_repeated. is_repeated ≡ ((inst.now.op == LABEL) && contains nat_cmp seen.old (slice_index inst.now.words 0))) }
+    ensures before { IfOk result (λ is_repeated. is_repeated ≡ ((inst.now.op == LABEL) && contains nat_cmp seen.old (word_at 0 inst.now))) }
     ensures now { OnOk result ((label : ℕ) → contains nat_cmp seen.new label
-        ≡ (((inst.now.op == LABEL) && (slice_index inst.now.words 0 == label)) || contains nat_cmp seen.old label)) }
+        ≡ (((inst.now.op == LABEL) && (word_at 0 inst.now == label)) || contains nat_cmp seen.old label)) }
 {
     if inst.op != op::LABEL {
         return Ok(false);
     }
-    let is_new = seen.insert(operand(inst, 0))?;
+    let is_new = seen.insert(inst.word(0))?;
     Ok(!is_new)
 }
 
@@ -62,7 +62,7 @@ fn misses(inst: &Inst, is_repeated: bool, wanted: Option<u32>, place: u32) -> Op
     match (inst.op, wanted) {
         (op::LABEL, _) if is_repeated => Some(TreeFault::BadBlock(place)),
         (op::LABEL, None) => None,
-        (op::LABEL, Some(label)) if operand(inst, 0) == label => None,
+        (op::LABEL, Some(label)) if inst.word(0) == label => None,
         (op::LABEL | op::FUNCTION_END, Some(_)) => Some(TreeFault::BadMerge(place)),
         _ => Some(TreeFault::BadBlock(place)),
     }

@@ -1,7 +1,8 @@
 ghost use Rattle.std.specs.Prelude.{◌≡◌, ◌<◌};
-ghost use Rattle.spirv_model.specs.Grammar as spec;
+ghost use Rattle.body_model.specs.Grammar as spec;
 
-use spirv_model::grammar::{LoopExits, NESTING_LIMIT, Scope};
+use body_model::grammar::{LoopExits, Scope};
+use limits::NESTING;
 
 /// The function's own sequence.
 pub fn main() -> Scope
@@ -44,7 +45,7 @@ pub fn merged(scope: Scope) -> Scope
 
 /// An arm of a selection in the sequence.
 pub fn arm(scope: Scope, merge: u32) -> Scope
-    requires { scope.depth < NESTING_LIMIT }
+    requires { scope.depth < NESTING }
     ensures { result ≡ spec.arm scope merge }
 {
     Scope {
@@ -62,7 +63,7 @@ pub fn arm(scope: Scope, merge: u32) -> Scope
 
 /// The condition sequence of a loop in the sequence.
 pub fn condition(scope: Scope, merge: u32) -> Scope
-    requires { scope.depth < NESTING_LIMIT }
+    requires { scope.depth < NESTING }
     ensures { result ≡ spec.condition scope merge }
 {
     Scope {
@@ -80,7 +81,7 @@ pub fn condition(scope: Scope, merge: u32) -> Scope
 
 /// The body of a loop in the sequence.
 pub fn body(scope: Scope, merge: u32, next: u32) -> Scope
-    requires { scope.depth < NESTING_LIMIT }
+    requires { scope.depth < NESTING }
     ensures { result ≡ spec.body scope merge next }
 {
     Scope {
@@ -98,7 +99,7 @@ pub fn body(scope: Scope, merge: u32, next: u32) -> Scope
 
 /// The continue sequence of a loop in the sequence.
 pub fn continuing(scope: Scope, header: u32) -> Scope
-    requires { scope.depth < NESTING_LIMIT }
+    requires { scope.depth < NESTING }
     ensures { result ≡ spec.continuing scope header }
 {
     Scope {

@@ -2,12 +2,13 @@ ghost use Rattle.std.specs.Prelude.{◌≡◌, ◌<◌, ◌≤◌, ◌^◌, leng
 ghost use Rattle.spv_tree.specs.Parts.{MarksLabels, IsBlock, ReadsSequence, ReadsArm, ReadsChoice, ReadsRound};
 ghost use Rattle.spv_tree.specs.Trees.{block_at};
 
-use crate::block::{block_end, operand};
+use crate::block::block_end;
 use crate::labels::missing;
 use crate::scope;
 use crate::tree::{Block, Choice, Node, Round, Run};
+use body_model::grammar::{BlockEnd, Scope, TreeFault};
+use limits::NESTING;
 use spirv_model::Inst;
-use spirv_model::grammar::{BlockEnd, NESTING_LIMIT, Scope, TreeFault};
 use sqlite_items::{Boxed, Items};
 use std::alloc::Global;
 
@@ -124,7 +125,7 @@ fn block(insts: &[Inst], first: u32, after: u32) -> Block
     ensures { result ≡ block_at insts.now first after }
 {
     Block {
-        label: operand(&insts[first as usize], 0),
+        label: insts[first as usize].word(0),
         first,
         count: after - first,
     }
@@ -157,7 +158,7 @@ fn choice(
 ) -> Result<Built, TreeFault>
     requires few { length insts.now < 2 ^ 32 }
     requires marked { MarksLabels insts.now repeated.now }
-    requires open { scope.depth < NESTING_LIMIT }
+    requires open { scope.depth < NESTING }
     ensures { ReadsChoice insts.now scope fork place result }
 {
     let Fork {
@@ -198,7 +199,7 @@ fn arm(
 ) -> Result<Way, TreeFault>
     requires few { length insts.now < 2 ^ 32 }
     requires marked { MarksLabels insts.now repeated.now }
-    requires open { scope.depth < NESTING_LIMIT }
+    requires open { scope.depth < NESTING }
     ensures { ReadsArm insts.now scope merge target place result }
 {
     if target == merge {
@@ -232,7 +233,7 @@ fn round(
 ) -> Result<Built, TreeFault>
     requires few { length insts.now < 2 ^ 32 }
     requires marked { MarksLabels insts.now repeated.now }
-    requires open { scope.depth < NESTING_LIMIT }
+    requires open { scope.depth < NESTING }
     ensures { ReadsRound insts.now scope ring place result }
 {
     let Ring {

@@ -1,7 +1,7 @@
 ghost use Rattle.std.specs.Prelude.{◌≡◌, ◌<◌, ◌^◌, length, IfOk, IfErr};
-ghost use Rattle.spirv_model.specs.declared.grammar.TreeFault.TheVariants.{Memory};
-ghost use Rattle.spirv_model.specs.Grammar.{Derives};
-ghost use Rattle.spirv_model.specs.TreeFaults.{tree_fault};
+ghost use Rattle.body_model.specs.declared.grammar.TreeFault.TheVariants.{Memory};
+ghost use Rattle.body_model.specs.Grammar.{Derives};
+ghost use Rattle.body_model.specs.TreeFaults.{tree_fault};
 ghost use Rattle.spv_tree.specs.Trees.{IsTreeOf};
 ghost use Rattle.spv_tree.specs.Views.{Finds};
 ghost use Rattle.spv_tree.specs.Parts.{FindsFunction, FindsEnd};
@@ -11,7 +11,7 @@ use crate::labels::repeated_labels;
 use crate::scope;
 use crate::sequence::sequence;
 use crate::tree::Body;
-use spirv_model::grammar::TreeFault;
+use body_model::grammar::TreeFault;
 use spirv_model::{Inst, op};
 use std::alloc::Global;
 

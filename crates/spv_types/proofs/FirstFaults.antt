@@ -4,13 +4,14 @@ use Rattle.std.specs.Prelude.{Option, None, Some}
 use Rattle.std.specs.Option.{option_or}
 use Rattle.std.proofs.lemmas.Bool.{cases_lt}
 use Rattle.spirv_model.specs.declared.module.Words.{Words}
-use Rattle.spirv_model.specs.declared.types.Known.{Known}
-use Rattle.spirv_model.specs.declared.types.Meaning.TheVariants.{Absent}
-use Rattle.spirv_model.specs.declared.types.TypeFault.{TypeFault}
-use Rattle.spirv_model.specs.declared.types.TypeFault.TheVariants.{IdTwice, IdOutOfBound, BadType, BadConstant, BadDecoration, Memory}
-use Rattle.spirv_model.specs.Meanings.{meaning, meaning_in}
-use Rattle.spirv_model.specs.Decorations.{bad_decoration}
-use Rattle.spirv_model.specs.TypeFaults.{first_fault, rule_fault, type_fault, type_fault_at}
+use Rattle.valid_model.specs.declared.meaning.Known.{Known}
+use Rattle.valid_model.specs.declared.meaning.Meaning.TheVariants.{Absent}
+use Rattle.valid_model.specs.declared.type_fault.TypeFault.{TypeFault}
+use Rattle.valid_model.specs.declared.type_fault.TypeFault.TheVariants.{IdTwice, IdOutOfBound, BadType, BadConstant, BadDecoration, Memory}
+use Rattle.valid_model.specs.Knowledge.{meaning_in}
+use Rattle.valid_model.specs.Meanings.{meaning}
+use Rattle.valid_model.specs.Decorations.{bad_decoration}
+use Rattle.valid_model.specs.FirstFault.{first_fault, rule_fault, type_fault, type_fault_at}
 use Rattle.spv_types.specs.declared.pass.Found.{Found}
 use Rattle.spv_types.specs.declared.pass.Pass.{Pass}
 use Rattle.spv_types.specs.Answers.{Fails, meaning_or}

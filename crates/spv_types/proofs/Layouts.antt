@@ -1,22 +1,21 @@
 -- Members of a block, one after another.
-use Rattle.std.proofs.Common.{◌≡◌, ℕ, ◌+◌, ◌<◌, true, false, ◌&&◌, List, ◌∷◌, length, get_or, drop, ◌∙◌, ap, add-one, drop-cons}
-use Rattle.spirv_model.specs.Decorations.{Facts, is_laid_out, are_laid_out}
+use Rattle.std.proofs.Common.{◌≡◌, ℕ, ◌+◌, ◌<◌, true, false, ◌&&◌, List, length, get_or, drop, ◌∙◌, ap}
+use Rattle.basics.proofs.Lists.{drop_first}
+use Rattle.valid_model.specs.Blocks.{is_laid_out, are_laid_out}
+use Rattle.valid_model.specs.ModuleFacts.{ModuleFacts}
 
-drop_first : (xs : List ℕ) (i : ℕ) → i < length xs → drop i xs ≡ get_or xs i 0 ∷ drop (i + 1) xs
-drop_first xs i within = rw (add-one, drop-cons xs i 0)
-
-laid_next : (facts : Facts) (id : ℕ) (types : List ℕ) (i : ℕ) → i < length types
+laid_next : (facts : ModuleFacts) (id : ℕ) (types : List ℕ) (i : ℕ) → i < length types
     → are_laid_out facts id i (drop i types) ≡ (is_laid_out facts id i (get_or types i 0) && are_laid_out facts id (i + 1) (drop (i + 1) types))
 laid_next facts id types i within = ap (are_laid_out facts id i) (drop_first types i within)
 
-pub laid_more : (facts : Facts) (id : ℕ) (types : List ℕ) (i : ℕ) → i < length types
+pub laid_more : (facts : ModuleFacts) (id : ℕ) (types : List ℕ) (i : ℕ) → i < length types
     → are_laid_out facts id 0 types ≡ are_laid_out facts id i (drop i types)
     → is_laid_out facts id i (get_or types i 0) ≡ true
     → are_laid_out facts id 0 types ≡ are_laid_out facts id (i + 1) (drop (i + 1) types)
 laid_more facts id types i within before here =
     before ∙ laid_next facts id types i within ∙ ap (λ b. b && are_laid_out facts id (i + 1) (drop (i + 1) types)) here
 
-pub laid_not : (facts : Facts) (id : ℕ) (types : List ℕ) (i : ℕ) → i < length types
+pub laid_not : (facts : ModuleFacts) (id : ℕ) (types : List ℕ) (i : ℕ) → i < length types
     → are_laid_out facts id 0 types ≡ are_laid_out facts id i (drop i types)
     → is_laid_out facts id i (get_or types i 0) ≡ false
     → are_laid_out facts id 0 types ≡ false

@@ -7,8 +7,9 @@ use Rattle.std.proofs.Math.ListN.{get_or-eq_default}
 use Rattle.std.proofs.lemmas.List.{get_or_default}
 use Rattle.std.proofs.lemmas.List.Sums.{fold_more}
 use Rattle.spirv_model.specs.declared.module.Inst.{Inst}
-use Rattle.spirv_model.specs.Meanings.{Knowledge, gives, definition, known_after, known_by, nothing_known}
-use Rattle.spirv_model.specs.TypeFaults.{inst_at, no_instruction}
+use Rattle.valid_model.specs.Definitions.{gives, definition, inst_at, no_instruction}
+use Rattle.valid_model.specs.Knowledge.{Knowledge, nothing_known}
+use Rattle.valid_model.specs.Meanings.{known_after, known_by}
 use Rattle.spv_types.specs.Tables.{first_place}
 
 pub inst_past : (insts : List Inst) (place : ℕ) → length insts ≤ place → inst_at insts place ≡ no_instruction

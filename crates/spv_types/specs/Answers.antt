@@ -1,13 +1,13 @@
 -- What the table of a module's ids tells.
 use Rattle.std.specs.Prelude.{◌≡◌, ℕ, Option, None, Some, Result, Ok, Err}
 use Rattle.spirv_model.specs.declared.module.Words.{Words}
-use Rattle.spirv_model.specs.declared.types.Meaning.{Meaning}
-use Rattle.spirv_model.specs.declared.types.Known.{Known}
-use Rattle.spirv_model.specs.declared.types.TypeFault.{TypeFault}
-use Rattle.spirv_model.specs.declared.types.TypeFault.TheVariants.{Memory}
-use Rattle.spirv_model.specs.Meanings.{meaning}
-use Rattle.spirv_model.specs.Decorations.{decoration_of, offset_of}
-use Rattle.spirv_model.specs.TypeFaults.{type_fault}
+use Rattle.valid_model.specs.declared.meaning.Meaning.{Meaning}
+use Rattle.valid_model.specs.declared.meaning.Known.{Known}
+use Rattle.valid_model.specs.declared.type_fault.TypeFault.{TypeFault}
+use Rattle.valid_model.specs.declared.type_fault.TypeFault.TheVariants.{Memory}
+use Rattle.valid_model.specs.Meanings.{meaning}
+use Rattle.valid_model.specs.DecorationWords.{decoration_of, offset_of}
+use Rattle.valid_model.specs.FirstFault.{type_fault}
 use Rattle.spv_types.specs.declared.ids.Ids.{Ids}
 use Rattle.spv_types.specs.Pairs.{at_pair}
 use Rattle.spv_types.specs.Tables.{in_table}

@@ -1,8 +1,8 @@
 -- What the tables of a module's decorations say.
 use Rattle.std.specs.Prelude.{◌≡◌, ℕ, List}
 use Rattle.spirv_model.specs.declared.module.Inst.{Inst}
-use Rattle.spirv_model.specs.Decorations.{decoration_of, offset_of}
-use Rattle.spv_types.specs.declared.decorations.Decorations.{Decorations}
+use Rattle.valid_model.specs.DecorationWords.{decoration_of, offset_of}
+use Rattle.spv_types.specs.declared.decoration_words.Decorations.{Decorations}
 use Rattle.spv_types.specs.Pairs.{at_pair}
 
 -- they are the decorations of ids and the offsets of members

@@ -3,16 +3,18 @@ use Rattle.std.specs.Prelude.{◌≡◌, ℕ, ◌<◌, true, false, List, Option
 use Rattle.std.specs.Ordering.{nat_cmp}
 use Rattle.std.specs.BTreeMap.{get}
 use Rattle.spirv_model.specs.declared.module.Inst.{Inst}
-use Rattle.spirv_model.specs.declared.types.TypeFault.{TypeFault}
-use Rattle.spirv_model.specs.declared.types.TypeFault.TheVariants.{BadDecoration}
-use Rattle.spirv_model.specs.Meanings.{definition, known_by}
-use Rattle.spirv_model.specs.Decorations.{bad_decoration, model_of}
-use Rattle.spv_types.specs.declared.facts.Whole.{Whole}
+use Rattle.valid_model.specs.declared.type_fault.TypeFault.{TypeFault}
+use Rattle.valid_model.specs.declared.type_fault.TypeFault.TheVariants.{BadDecoration}
+use Rattle.valid_model.specs.Definitions.{definition}
+use Rattle.valid_model.specs.Meanings.{known_by}
+use Rattle.valid_model.specs.Decorations.{bad_decoration}
+use Rattle.valid_model.specs.ModuleFacts.{model_of}
+use Rattle.spv_types.specs.declared.module_facts.ModuleTables.{ModuleTables}
 use Rattle.spv_types.specs.Decorated.{AreDecorationsOf}
 use Rattle.spv_types.specs.Tables.{in_table}
 
 -- the tables are those of the instructions
-pub record IsWhole (whole : Whole) : Type 0 where
+pub record IsWhole (whole : ModuleTables) : Type 0 where
   pub decorations : AreDecorationsOf whole.insts.now whole.decorations.now
   pub known : (id : ℕ) → in_table whole.known.now id ≡ known_by whole.insts.now id
   pub places : (id : ℕ) → get nat_cmp whole.places.now id ≡ definition whole.insts.now id

@@ -5,9 +5,11 @@ use Rattle.std.specs.Ordering.{nat_cmp}
 use Rattle.std.specs.BTreeMap.{BTreeMap, get}
 use Rattle.spirv_model.specs.declared.module.Inst.{Inst}
 use Rattle.spirv_model.specs.declared.module.Words.{Words}
-use Rattle.spirv_model.specs.declared.types.Known.{Known}
-use Rattle.spirv_model.specs.Meanings.{Knowledge, definition, known_by}
-use Rattle.spirv_model.specs.TypeFaults.{rule_fault}
+use Rattle.valid_model.specs.declared.meaning.Known.{Known}
+use Rattle.valid_model.specs.Definitions.{definition}
+use Rattle.valid_model.specs.Knowledge.{Knowledge}
+use Rattle.valid_model.specs.Meanings.{known_by}
+use Rattle.valid_model.specs.FirstFault.{rule_fault}
 use Rattle.spv_types.specs.declared.pass.Found.{Found}
 use Rattle.spv_types.specs.declared.pass.Pass.{Pass}
 

@@ -1,14 +1,15 @@
 //! Which types are blocks whose members are laid out (SPIR-V specification, section 2.16.2 "Validation Rules for Shader
 //! Capabilities").
 ghost use Rattle.std.specs.Prelude.{◌≡◌};
-ghost use Rattle.spirv_model.specs.Decorations as spec;
+ghost use Rattle.valid_model.specs.Blocks as spec;
 ghost use Rattle.spv_types.specs.FactsIn.{facts_in};
 
-use crate::facts::{Whole, decoration_of, is_decorated, offset_of};
+use crate::module_facts::{ModuleTables, decoration_of, is_decorated, offset_of};
 use crate::shapes::{is_array, is_integers, pointed_by};
-use spirv_model::{Known, Meaning, Shape, decoration};
+use spirv_model::decoration;
+use valid_model::{Known, Meaning, Shape};
 
-fn is_block_member(whole: &Whole, ty: u32) -> bool
+fn is_block_member(whole: &ModuleTables, ty: u32) -> bool
     ensures { result ≡ spec.is_block_member (facts_in whole.now) ((facts_in whole.now).meaning ty) }
 {
     match whole.known.get(&ty) {
@@ -40,7 +41,7 @@ fn is_stride(stride: Option<u32>) -> bool
     }
 }
 
-fn is_laid_out(whole: &Whole, id: u32, member: usize, ty: u32) -> bool
+fn is_laid_out(whole: &ModuleTables, id: u32, member: usize, ty: u32) -> bool
     ensures { result ≡ spec.is_laid_out (facts_in whole.now) id member ty }
 {
     is_block_member(whole, ty)
@@ -49,7 +50,7 @@ fn is_laid_out(whole: &Whole, id: u32, member: usize, ty: u32) -> bool
             || is_stride(decoration_of(whole, ty, decoration::ARRAY_STRIDE)))
 }
 
-fn are_laid_out(whole: &Whole, id: u32, types: &[u32]) -> bool
+fn are_laid_out(whole: &ModuleTables, id: u32, types: &[u32]) -> bool
     ensures { result ≡ spec.are_laid_out (facts_in whole.now) id 0 types.now }
 {
     for (member, ty) in types.iter().enumerate() {
@@ -61,7 +62,7 @@ fn are_laid_out(whole: &Whole, id: u32, types: &[u32]) -> bool
 }
 
 /// Whether the type is a structure with Block whose members are laid out.
-fn is_block_type(whole: &Whole, id: u32) -> bool
+fn is_block_type(whole: &ModuleTables, id: u32) -> bool
     ensures { result ≡ spec.is_block_type (facts_in whole.now) id ((facts_in whole.now).meaning id) }
 {
     match whole.known.get(&id) {
@@ -79,7 +80,7 @@ fn is_block_type(whole: &Whole, id: u32) -> bool
 }
 
 /// Whether the type is a pointer to such a structure.
-pub fn points_to_block(whole: &Whole, ty: u32) -> bool
+pub fn points_to_block(whole: &ModuleTables, ty: u32) -> bool
     ensures { result ≡ spec.points_to_block (facts_in whole.now) ty }
 {
     match pointed_by(whole.known, ty) {

@@ -1,73 +1,100 @@
-//! What decorations say of ids and of members.
-ghost use Rattle.std.specs.Prelude.{◌≡◌, ℕ, IfOk, OnOk};
-ghost use Rattle.std.specs.Option.{option_or};
-ghost use Rattle.spirv_model.specs.Decorations as spec;
-ghost use Rattle.spv_types.specs.Decorated.{AreDecorationsOf};
-ghost use Rattle.spv_types.specs.Pairs.{at_pair, said};
+//! Which decorations are allowed (SPIR-V specification, section 3.20 "Decoration"), and the first place where they aren't.
+ghost use Rattle.std.specs.Prelude.{◌≡◌, ◌≤◌, length, IfOk};
+ghost use Rattle.valid_model.specs.Decorations as spec;
+ghost use Rattle.spv_types.specs.FactsIn.{facts_in, before_in};
+ghost use Rattle.spv_types.specs.FirstBad.{IsWhole, FindsFirstBad};
 
-use crate::decorate::is_listed;
-use crate::pairs::{Pairs, keep_first};
-use crate::types::word;
+use crate::built_ins::takes_built_in;
+use crate::decoration_words::is_listed;
+use crate::earlier_facts::{EarlierTables, add_inst, nothing_seen};
+use crate::module_facts::{ModuleTables, is_spec_constant};
+use crate::variables::bad_variable;
+use limits::{DESCRIPTOR_BINDINGS, DESCRIPTOR_SETS, LOCATIONS};
 use spirv_model::{Inst, decoration, op};
 use std::alloc::{AllocError, Global};
-use std::collections::BTreeMap;
 
-/// The words of decorations by id and decoration, and offsets by id and member: of each the first.
-#[derive(Debug, Drop)]
-pub struct Decorations {
-    pub words: Pairs,
-    pub offsets: Pairs,
-}
-
-/// What the decorations among the instructions say.
-pub fn decorations_of(alloc: Global, insts: &[Inst]) -> Result<Decorations, AllocError>
-    ensures { IfOk result (AreDecorationsOf insts.now) }
+fn is_out_of_range(decoration: u32, word: u32) -> bool
+    ensures { result ≡ spec.is_out_of_range decoration word }
 {
-    let words = words_of(alloc, insts)?;
-    let offsets = offsets_of(alloc, insts)?;
-    Ok(Decorations { words, offsets })
-}
-
-#[tactic(auto, unfolding(spirv_model::specs::Decorations::decoration_of))]
-fn words_of(alloc: Global, insts: &[Inst]) -> Result<Pairs, AllocError>
-    ensures { IfOk result (λ words. (id decoration : ℕ) → at_pair words id decoration ≡ spec.decoration_of insts.now id decoration) }
-{
-    let mut words = BTreeMap::new(alloc);
-    for inst in insts {
-        add_word(&mut words, inst)?;
+    match decoration {
+        decoration::LOCATION => word >= LOCATIONS as u32,
+        decoration::DESCRIPTOR_SET => word >= DESCRIPTOR_SETS as u32,
+        decoration::BINDING => word >= DESCRIPTOR_BINDINGS as u32,
+        _ => false,
     }
-    Ok(words)
 }
 
-fn add_word(map: &mut Pairs, inst: &Inst) -> Result<(), AllocError>
-    ensures { OnOk result ((id decoration : ℕ) → at_pair map.new id decoration
-        ≡ option_or (at_pair map.old id decoration) (said (spec.decorates id decoration inst.now) (spec.word_at 2 inst.now))) }
+fn repeats(seen: &EarlierTables, id: u32, decoration: u32, word: u32) -> bool
+    ensures { result ≡ spec.repeats (before_in seen.now) id decoration word }
+{
+    seen.decorations.contains(&(id, decoration))
+        || (decoration == decoration::SPEC_ID && seen.spec_ids.contains(&word))
+}
+
+/// Whether OpDecorate mustn't give the id this decoration with this word, in so many words.
+#[tactic(auto, unfolding(valid_model::specs::Decorations::bad_decorate))]
+pub fn bad_decorate(
+    whole: &ModuleTables,
+    seen: &EarlierTables,
+    id: u32,
+    decoration: u32,
+    word: u32,
+    words: usize,
+) -> bool
+    ensures { result ≡ spec.bad_decorate (facts_in whole.now) (before_in seen.now) id decoration word words }
+{
+    !is_listed(decoration, words)
+        || repeats(seen, id, decoration, word)
+        || is_out_of_range(decoration, word)
+        || (decoration == decoration::SPEC_ID && !is_spec_constant(whole, id))
+        || (decoration == decoration::BUILT_IN && !takes_built_in(whole, word, id))
+}
+
+/// Whether OpMemberDecorate mustn't give the member this decoration, in so many words.
+#[tactic(auto, unfolding(valid_model::specs::Decorations::bad_member_decorate))]
+pub fn bad_member_decorate(
+    seen: &EarlierTables,
+    id: u32,
+    member: u32,
+    decoration: u32,
+    words: usize,
+) -> bool
+    ensures { result ≡ spec.bad_member_decorate (before_in seen.now) id member decoration words }
+{
+    !(decoration == decoration::OFFSET && words == 4) || seen.offsets.contains(&(id, member))
+}
+
+#[tactic(auto, unfolding(valid_model::specs::Decorations::breaks_decorations))]
+fn breaks_decorations(whole: &ModuleTables, seen: &EarlierTables, inst: &Inst) -> bool
+    ensures { result ≡ spec.breaks_decorations (facts_in whole.now) (before_in seen.now) inst.now }
 {
     let words = inst.words.as_slice();
-    if inst.op != op::DECORATE || !is_listed(word(words, 1), words.len()) {
-        return Ok(());
+    let (a, b, c) = (inst.word(0), inst.word(1), inst.word(2));
+    match inst.op {
+        op::DECORATE => bad_decorate(whole, seen, a, b, c, words.len()),
+        op::MEMBER_DECORATE => bad_member_decorate(seen, a, b, c, words.len()),
+        op::VARIABLE => bad_variable(whole, seen, a, b, c),
+        _ => false,
     }
-    keep_first(map, word(words, 0), word(words, 1) as usize, word(words, 2))
 }
 
-#[tactic(auto, unfolding(spirv_model::specs::Decorations::offset_of))]
-fn offsets_of(alloc: Global, insts: &[Inst]) -> Result<Pairs, AllocError>
-    ensures { IfOk result (λ offsets. (id member : ℕ) → at_pair offsets id member ≡ spec.offset_of insts.now id member) }
+/// The first of so many places where decorations aren't allowed.
+pub fn first_bad_decoration(
+    alloc: Global,
+    whole: &ModuleTables,
+    limit: usize,
+) -> Result<Option<usize>, AllocError>
+    requires whole { IsWhole whole.now }
+    requires within { limit ≤ length whole.now.insts.now }
+    ensures { IfOk result (FindsFirstBad whole.now.insts.now limit) }
 {
-    let mut offsets = BTreeMap::new(alloc);
-    for inst in insts {
-        add_offset(&mut offsets, inst)?;
+    let mut seen = nothing_seen(alloc);
+    for place in 0..limit {
+        let inst = &whole.insts[place];
+        if breaks_decorations(whole, &seen, inst) {
+            return Ok(Some(place));
+        }
+        add_inst(&mut seen, whole, inst)?;
     }
-    Ok(offsets)
-}
-
-fn add_offset(map: &mut Pairs, inst: &Inst) -> Result<(), AllocError>
-    ensures { OnOk result ((id member : ℕ) → at_pair map.new id member
-        ≡ option_or (at_pair map.old id member) (said (spec.places_member id member inst.now) (spec.word_at 3 inst.now))) }
-{
-    let words = inst.words.as_slice();
-    if inst.op != op::MEMBER_DECORATE || word(words, 2) != decoration::OFFSET || words.len() != 4 {
-        return Ok(());
-    }
-    keep_first(map, word(words, 0), word(words, 1) as usize, word(words, 3))
+    Ok(None)
 }

@@ -1,20 +1,16 @@
-ghost use Rattle.std.specs.Prelude.{◌≡◌, ◌<◌, ◌^◌, length, IfOk, IfSome};
-ghost use Rattle.spirv_model.specs.Decorations.{both};
-ghost use Rattle.spirv_model.specs.TypeFaults.{type_fault};
+ghost use Rattle.std.specs.Prelude.{◌≡◌, ◌<◌, ◌^◌, length};
+ghost use Rattle.valid_model.specs.DecorationWords.{both};
 ghost use Rattle.spirv_model.specs.declared.decoration.TheConstants.{SPEC_ID, LOCATION, BUILT_IN, DESCRIPTOR_SET, BINDING, ARRAY_STRIDE};
 ghost use Rattle.spv_types.specs.Answers.{Gives, meaning_at, decoration_at, offset_at};
-ghost use Rattle.spv_types.specs.Decorated.{AreDecorationsOf};
-ghost use Rattle.spv_types.specs.FirstBad.{bad_else};
-ghost use Rattle.spv_types.specs.Tables.{HasPlaces, GoesOver};
 
-use crate::bad_decoration::{first_bad_decoration, model_of};
-use crate::decorations::{Decorations, decorations_of};
-use crate::facts::Whole;
-use crate::faults::Places;
-use crate::known::Table;
-use crate::pass::{Pass, definitions, go_over};
-use spirv_model::{Known, Meaning, TypeFault, Words, decoration};
-use std::alloc::{AllocError, Global};
+use crate::decoration_words::{Decorations, decorations_of};
+use crate::definitions::definitions;
+use crate::first_fault::first_fault;
+use crate::knowledge::Table;
+use crate::pass::go_over;
+use spirv_model::{Words, decoration};
+use std::alloc::Global;
+use valid_model::{Known, Meaning, TypeFault};
 
 /// What the ids of a module mean, and what decorations say of them.
 #[derive(Debug, Drop)]
@@ -114,50 +110,5 @@ pub fn ids_of(alloc: Global, words: &Words) -> Result<Ids, TypeFault>
             absent: Meaning::Absent,
             decorations,
         }),
-    }
-}
-
-/// The first fault, decorations among them.
-fn first_fault(
-    alloc: Global,
-    words: &Words,
-    places: &Places,
-    pass: &Pass,
-    decorations: &Decorations,
-) -> Result<Option<TypeFault>, AllocError>
-    requires few { length words.now.insts < 2 ^ 32 }
-    requires defined { HasPlaces places.now words.now.insts }
-    requires over { GoesOver words.now pass.now }
-    requires decorations { AreDecorationsOf words.now.insts decorations.now }
-    ensures { IfOk result (λ fault. fault ≡ type_fault words.now) }
-{
-    let insts = words.insts.as_slice();
-    let whole = Whole {
-        decorations,
-        known: &pass.table,
-        places,
-        insts,
-        model: model_of(insts),
-    };
-    match pass.found {
-        Some(found) => {
-            let bad = first_bad_decoration(alloc, &whole, found.place)?;
-            Ok(bad_or(bad, Some(found.fault)))
-        }
-        None => {
-            let bad = first_bad_decoration(alloc, &whole, insts.len())?;
-            Ok(bad_or(bad, None))
-        }
-    }
-}
-
-/// The bad decoration, else the other fault.
-fn bad_or(bad: Option<usize>, other: Option<TypeFault>) -> Option<TypeFault>
-    requires { IfSome bad (λ place. place < 2 ^ 32) }
-    ensures { result ≡ bad_else bad other }
-{
-    match bad {
-        Some(place) => Some(TypeFault::BadDecoration(place as u32)),
-        None => other,
     }
 }

@@ -1,27 +1,27 @@
 //! The ids of a module: its types, its constants and what else ids mean.
 #![tactic(auto)]
 
-mod bad_decoration;
 mod blocks;
-mod builtins;
+mod built_ins;
 mod constants;
-mod decorate;
+mod decoration_words;
 mod decorations;
-mod facts;
-mod faults;
+mod definitions;
+mod earlier_facts;
+mod first_fault;
 mod ids;
-mod known;
-mod known_of;
+mod knowledge;
+mod meanings;
+mod module_facts;
 mod operations;
 mod pairs;
 mod pass;
-mod seen;
 mod shapes;
 mod types;
 mod variables;
 
 pub use ids::{Ids, ids_of};
-pub use spirv_model::{Meaning, Members, Shape, TypeFault};
+pub use valid_model::{Meaning, Members, Shape, TypeFault};
 
 #[cfg(test)]
 mod decoration_tests;

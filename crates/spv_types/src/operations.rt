@@ -1,21 +1,20 @@
 //! The operations of OpSpecConstantOp (SPIR-V specification, section 3.49.7 "Constant-Creation Instructions").
 ghost use Rattle.std.specs.Prelude.{◌≡◌};
-ghost use Rattle.spirv_model.specs.Meanings as spec;
-ghost use Rattle.spirv_model.specs.TypeFaults as faults;
+ghost use Rattle.valid_model.specs.Knowledge as knowledge;
+ghost use Rattle.valid_model.specs.Operations as spec;
 ghost use Rattle.spv_types.specs.Tables.{in_table};
 
-use crate::constants::{is_constant_of, is_truth, is_word};
-use crate::known::{Table, is_bool, is_integer};
+use crate::knowledge::{Table, is_bool, is_constant_of, is_integer, is_truth, is_word};
 use spirv_model::op;
 
 fn is_word_from_word(opcode: u32) -> bool
-    ensures { result ≡ faults.is_word_from_word opcode }
+    ensures { result ≡ spec.is_word_from_word opcode }
 {
     opcode == u32::from(op::S_NEGATE) || opcode == u32::from(op::NOT)
 }
 
 fn is_arithmetic(opcode: u32) -> bool
-    ensures { result ≡ faults.is_arithmetic opcode }
+    ensures { result ≡ spec.is_arithmetic opcode }
 {
     opcode == u32::from(op::I_ADD)
         || opcode == u32::from(op::I_SUB)
@@ -28,25 +27,25 @@ fn is_arithmetic(opcode: u32) -> bool
 }
 
 fn is_bitwise(opcode: u32) -> bool
-    ensures { result ≡ faults.is_bitwise opcode }
+    ensures { result ≡ spec.is_bitwise opcode }
 {
     opcode >= u32::from(op::SHIFT_RIGHT_LOGICAL) && opcode <= u32::from(op::BITWISE_AND)
 }
 
 fn is_comparison(opcode: u32) -> bool
-    ensures { result ≡ faults.is_comparison opcode }
+    ensures { result ≡ spec.is_comparison opcode }
 {
     opcode >= u32::from(op::I_EQUAL) && opcode <= u32::from(op::S_LESS_THAN_EQUAL)
 }
 
 fn is_logical(opcode: u32) -> bool
-    ensures { result ≡ faults.is_logical opcode }
+    ensures { result ≡ spec.is_logical opcode }
 {
     opcode >= u32::from(op::LOGICAL_EQUAL) && opcode <= u32::from(op::LOGICAL_AND)
 }
 
 fn unary_fits(table: &Table, ty: u32, opcode: u32, a: u32) -> bool
-    ensures { result ≡ faults.unary_fits opcode (spec.meaning_in (in_table table.now ty)) (faults.constant_type (in_table table.now) a) }
+    ensures { result ≡ spec.unary_fits opcode (knowledge.meaning_in (in_table table.now ty)) (knowledge.constant_type (in_table table.now) a) }
 {
     if is_word_from_word(opcode) {
         return is_integer(table, ty) && is_word(table, a);
@@ -55,7 +54,7 @@ fn unary_fits(table: &Table, ty: u32, opcode: u32, a: u32) -> bool
 }
 
 fn binary_fits(table: &Table, ty: u32, opcode: u32, a: u32, b: u32) -> bool
-    ensures { result ≡ faults.binary_fits opcode (spec.meaning_in (in_table table.now ty)) (faults.constant_type (in_table table.now) a) (faults.constant_type (in_table table.now) b) }
+    ensures { result ≡ spec.binary_fits opcode (knowledge.meaning_in (in_table table.now ty)) (knowledge.constant_type (in_table table.now) a) (knowledge.constant_type (in_table table.now) b) }
 {
     if is_arithmetic(opcode) || is_bitwise(opcode) {
         return is_integer(table, ty) && is_word(table, a) && is_word(table, b);
@@ -67,7 +66,7 @@ fn binary_fits(table: &Table, ty: u32, opcode: u32, a: u32, b: u32) -> bool
 }
 
 fn select_fits(table: &Table, ty: u32, condition: u32, a: u32, b: u32) -> bool
-    ensures { result ≡ faults.select_fits (in_table table.now) ty condition a b }
+    ensures { result ≡ spec.select_fits (in_table table.now) ty condition a b }
 {
     is_truth(table, condition)
         && (is_bool(table, ty) || is_integer(table, ty))
@@ -76,7 +75,7 @@ fn select_fits(table: &Table, ty: u32, condition: u32, a: u32, b: u32) -> bool
 }
 
 pub fn operation_fits(table: &Table, ty: u32, opcode: u32, operands: &[u32]) -> bool
-    ensures { result ≡ faults.operation_fits (in_table table.now) ty opcode operands.now }
+    ensures { result ≡ spec.operation_fits (in_table table.now) ty opcode operands.now }
 {
     match operands {
         [a] => unary_fits(table, ty, opcode, *a),

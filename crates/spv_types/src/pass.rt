@@ -1,18 +1,19 @@
 //! One pass over the instructions: what is known of each id, and the first fault.
-ghost use Rattle.std.specs.Prelude.{◌≡◌, ℕ, ◌+◌, ◌<◌, ◌^◌, List, length, IfOk, OnOk};
-ghost use Rattle.spirv_model.specs.declared.module.Inst.{Inst};
+ghost use Rattle.std.specs.Prelude.{◌≡◌, ℕ, ◌+◌, ◌<◌, ◌^◌, length, IfOk, OnOk};
 ghost use Rattle.spirv_model.specs.declared.module.Words.{Words};
-ghost use Rattle.spirv_model.specs.Meanings as spec;
-ghost use Rattle.spirv_model.specs.TypeFaults as faults;
-ghost use Rattle.spv_types.specs.Tables.{in_table, in_places, first_place, HasPlaces, FindsFirst, GoesOver};
+ghost use Rattle.valid_model.specs.FirstFault as fault_rules;
+ghost use Rattle.valid_model.specs.Meanings as meanings;
+ghost use Rattle.spv_types.specs.Tables.{in_table, HasPlaces, FindsFirst, GoesOver};
 
-use crate::faults::{Places, fault_at, inst_at};
-use crate::known::Table;
-use crate::known_of::known_of;
-use spirv_model::{Inst, TypeFault, Words};
+use crate::definitions::{Places, inst_at};
+use crate::first_fault::fault_at;
+use crate::knowledge::Table;
+use crate::meanings::known_of;
+use spirv_model::{Inst, Words};
 use spv_words::result;
 use std::alloc::{AllocError, Global};
 use std::collections::BTreeMap;
+use valid_model::TypeFault;
 
 /// A fault and its place.
 #[derive(Clone, Copy, Debug, Drop)]
@@ -28,40 +29,16 @@ pub struct Pass {
     pub found: Option<Found>,
 }
 
-/// The place of each id's definition.
-pub fn definitions(alloc: Global, insts: &[Inst]) -> Result<Places, AllocError>
-    requires { length insts.now < 2 ^ 32 }
-    ensures { IfOk result (λ places. HasPlaces places insts.now) }
-{
-    let mut places = BTreeMap::new(alloc);
-    for place in 0..insts.len() {
-        define_place(&mut places, inst_at(insts, place), place as u32)?;
-    }
-    Ok(places)
-}
-
-fn define_place(places: &mut Places, inst: &Inst, place: u32) -> Result<(), AllocError>
-    ensures { OnOk result ((id : ℕ) → in_places places.new id ≡ first_place (in_places places.old id) (spec.gives id inst.now) place) }
-{
-    let Some(id) = result(inst) else {
-        return Ok(());
-    };
-    if !places.contains_key(&id) {
-        places.insert(id, place)?;
-    }
-    Ok(())
-}
-
 /// More is known after one more instruction.
-#[tactic(auto, unfolding(spirv_model::specs::Meanings::known_after))]
+#[tactic(auto, unfolding(valid_model::specs::Meanings::known_after))]
 fn define(alloc: Global, table: &mut Table, inst: &Inst) -> Result<(), AllocError>
-    ensures { OnOk result ((id : ℕ) → in_table table.new id ≡ spec.known_after (in_table table.old) inst.now id) }
+    ensures { OnOk result ((id : ℕ) → in_table table.new id ≡ meanings.known_after (in_table table.old) inst.now id) }
 {
     let Some(id) = result(inst) else {
         return Ok(());
     };
     if !table.contains_key(&id) {
-        let known = known_of(alloc, table, inst.op, inst.words.as_slice())?;
+        let known = known_of(alloc, table, inst)?;
         table.insert(id, known)?;
     }
     Ok(())
@@ -69,7 +46,7 @@ fn define(alloc: Global, table: &mut Table, inst: &Inst) -> Result<(), AllocErro
 
 /// The fault that was found, else the one at this place.
 fn earlier(found: Option<Found>, place: usize, fault: Option<TypeFault>) -> Option<Found>
-    ensures { (words : Words) → FindsFirst words place found → fault ≡ faults.rule_fault words place → FindsFirst words (place + 1) result }
+    ensures { (words : Words) → FindsFirst words place found → fault ≡ fault_rules.rule_fault words place → FindsFirst words (place + 1) result }
 {
     if found.is_some() {
         return found;

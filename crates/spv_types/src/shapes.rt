@@ -1,14 +1,14 @@
 //! What shapes the ids of types have.
 ghost use Rattle.std.specs.Prelude.{◌≡◌};
-ghost use Rattle.spirv_model.specs.Meanings.{meaning_in};
-ghost use Rattle.spirv_model.specs.Meanings as means;
-ghost use Rattle.spirv_model.specs.Decorations as spec;
+ghost use Rattle.valid_model.specs.Knowledge.{meaning_in};
+ghost use Rattle.valid_model.specs.Knowledge as knowledge;
+ghost use Rattle.valid_model.specs.Shapes as spec;
 ghost use Rattle.spv_types.specs.FactsIn.{facts_in};
 ghost use Rattle.spv_types.specs.Tables.{in_table};
 
-use crate::facts::Whole;
-use crate::known::{Table, is_bool, is_integer};
-use spirv_model::{Known, Meaning, Shape};
+use crate::knowledge::{Table, is_bool, is_integer};
+use crate::module_facts::ModuleTables;
+use valid_model::{Known, Meaning, Shape};
 
 /// Whether the id is the type of an integer or of a vector of integers.
 pub fn is_integers(table: &Table, id: u32) -> bool
@@ -66,7 +66,7 @@ pub fn pointed_by(table: &Table, id: u32) -> Option<u32>
 }
 
 /// Whether a variable of this type holds an integer or a vector of integers.
-pub fn holds_integers(whole: &Whole, ty: u32) -> bool
+pub fn holds_integers(whole: &ModuleTables, ty: u32) -> bool
     ensures { result ≡ spec.is_integers (spec.held_type (facts_in whole.now) ty) }
 {
     match pointed_by(whole.known, ty) {
@@ -75,8 +75,8 @@ pub fn holds_integers(whole: &Whole, ty: u32) -> bool
     }
 }
 
-pub fn holds_integer(whole: &Whole, ty: u32) -> bool
-    ensures { result ≡ means.is_integer (spec.held_type (facts_in whole.now) ty) }
+pub fn holds_integer(whole: &ModuleTables, ty: u32) -> bool
+    ensures { result ≡ knowledge.is_integer (spec.held_type (facts_in whole.now) ty) }
 {
     match pointed_by(whole.known, ty) {
         Some(to) => is_integer(whole.known, to),
@@ -84,8 +84,8 @@ pub fn holds_integer(whole: &Whole, ty: u32) -> bool
     }
 }
 
-pub fn holds_bool(whole: &Whole, ty: u32) -> bool
-    ensures { result ≡ means.is_bool (spec.held_type (facts_in whole.now) ty) }
+pub fn holds_bool(whole: &ModuleTables, ty: u32) -> bool
+    ensures { result ≡ knowledge.is_bool (spec.held_type (facts_in whole.now) ty) }
 {
     match pointed_by(whole.known, ty) {
         Some(to) => is_bool(whole.known, to),
@@ -93,7 +93,7 @@ pub fn holds_bool(whole: &Whole, ty: u32) -> bool
     }
 }
 
-pub fn holds_position(whole: &Whole, ty: u32) -> bool
+pub fn holds_position(whole: &ModuleTables, ty: u32) -> bool
     ensures { result ≡ spec.is_position_type (spec.held_type (facts_in whole.now) ty) }
 {
     match pointed_by(whole.known, ty) {

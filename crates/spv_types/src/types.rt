@@ -1,34 +1,22 @@
-ghost use Rattle.std.specs.Prelude.{◌≡◌, IfOk, drop, slice_index};
-ghost use Rattle.spirv_model.specs.Meanings as spec;
-ghost use Rattle.spv_types.specs.Tables.{in_table};
+//! Which types, variables and functions are allowed (SPIR-V specification, section 3.49.6 "Type-Declaration Instructions").
+ghost use Rattle.std.specs.Prelude.{◌≡◌, ◌<◌, length, IfOk};
+ghost use Rattle.valid_model.specs.Knowledge as knowledge;
+ghost use Rattle.valid_model.specs.Types as spec;
+ghost use Rattle.spv_types.specs.Tables.{in_table, HasPlaces};
 
-use crate::known::{Table, is_bool, is_data, is_integer, is_void, length, size};
-use spirv_model::{Inst, Items, Known, Meaning, Members, Shape, TYPE_WORDS_LIMIT, class, op};
+use crate::definitions::{Places, inst_at};
+use crate::knowledge::{Table, a_type, is_data, is_storage_class, is_void, length, size};
+use limits::TYPE_WORDS;
+use spirv_model::table::{Entry, Operand};
+use spirv_model::{Inst, Items, op};
+use spv_words::entry_of;
 use std::alloc::{AllocError, Global};
+use valid_model::{Known, Meaning, Members, Shape};
 
-/// The words from a place on.
-pub fn words_from(words: &[u32], place: usize) -> &[u32]
-    ensures { result.now ≡ drop place words.now }
+pub fn is_type(opcode: u16) -> bool
+    ensures { result ≡ spec.is_type opcode }
 {
-    let (_, after) = words.split_at(words.len().min(place));
-    after
-}
-
-/// The word at a place, 0 past the end.
-pub fn word(words: &[u32], place: usize) -> u32
-    ensures { result ≡ slice_index words.now place }
-{
-    words.get(place).copied().unwrap_or(0)
-}
-
-fn a_type(shape: Shape, size: u32) -> Known
-    ensures { result ≡ spec.a_type shape size }
-{
-    Known {
-        meaning: Meaning::Shape(shape),
-        size,
-        length: 0,
-    }
+    opcode >= op::TYPE_VOID && opcode <= op::TYPE_FUNCTION
 }
 
 fn integer_type(width: u32, signedness: u32) -> Option<Known>
@@ -43,7 +31,7 @@ fn integer_type(width: u32, signedness: u32) -> Option<Known>
 }
 
 fn vector_type(table: &Table, component: u32, count: u32) -> Option<Known>
-    ensures { result ≡ spec.vector_type (spec.meaning_in (in_table table.now component)) count }
+    ensures { result ≡ spec.vector_type (knowledge.meaning_in (in_table table.now component)) count }
 {
     if count < 2 || count > 4 {
         return None;
@@ -58,6 +46,39 @@ fn vector_type(table: &Table, component: u32, count: u32) -> Option<Known>
     }
 }
 
+/// The elements of an array whose length is an OpConstant of this type and word.
+fn constant_length(table: &Table, ty: u32, word: u32) -> u32
+    ensures { result ≡ spec.constant_length (knowledge.meaning_in (in_table table.now ty)) word }
+{
+    match table.get(&ty) {
+        Some(
+            Known {
+                meaning: Meaning::Shape(Shape::Int { signed }),
+                ..
+            },
+        ) => {
+            if *signed && word >= 0x8000_0000 {
+                0
+            } else {
+                word
+            }
+        }
+        _ => 0,
+    }
+}
+
+/// The elements of an array whose length is the result of an instruction with this opcode, this type and this word: those
+/// of an OpConstant.
+pub fn array_length(table: &Table, opcode: u16, ty: u32, word: u32) -> u32
+    ensures { result ≡ spec.array_length opcode (knowledge.meaning_in (in_table table.now ty)) word }
+{
+    if opcode == op::CONSTANT {
+        constant_length(table, ty, word)
+    } else {
+        0
+    }
+}
+
 fn array_type(table: &Table, elem: u32, len: u32) -> Option<Known>
     ensures { result ≡ spec.array_type (in_table table.now elem) elem len }
 {
@@ -65,7 +86,7 @@ fn array_type(table: &Table, elem: u32, len: u32) -> Option<Known>
         return None;
     }
     let words = u64::from(len) * u64::from(size(table, elem));
-    if words > u64::from(TYPE_WORDS_LIMIT) {
+    if words > u64::from(TYPE_WORDS) {
         return None;
     }
     Some(a_type(Shape::Array { elem, len }, words as u32))
@@ -81,7 +102,7 @@ fn struct_size(table: &Table, members: &[u32]) -> Option<u32>
             return None;
         }
         words += u64::from(size(table, *member));
-        if words > u64::from(TYPE_WORDS_LIMIT) {
+        if words > u64::from(TYPE_WORDS) {
             return None;
         }
     }
@@ -99,19 +120,8 @@ fn struct_type(alloc: Global, table: &Table, members: &[u32]) -> Result<Option<K
     Ok(Some(a_type(Shape::Struct { members }, size)))
 }
 
-pub fn is_storage_class(class: u32) -> bool
-    ensures { result ≡ spec.is_storage_class class }
-{
-    class == class::INPUT
-        || class == class::UNIFORM
-        || class == class::OUTPUT
-        || class == class::PRIVATE
-        || class == class::FUNCTION
-        || class == class::PUSH_CONSTANT
-}
-
 fn pointer_type(table: &Table, class: u32, to: u32) -> Option<Known>
-    ensures { result ≡ spec.pointer_type (spec.meaning_in (in_table table.now to)) class to }
+    ensures { result ≡ spec.pointer_type (knowledge.meaning_in (in_table table.now to)) class to }
 {
     if !is_storage_class(class) || !is_data(table, to) {
         return None;
@@ -121,7 +131,7 @@ fn pointer_type(table: &Table, class: u32, to: u32) -> Option<Known>
 }
 
 fn function_type(table: &Table, returned: u32) -> Option<Known>
-    ensures { result ≡ spec.function_type (spec.meaning_in (in_table table.now returned)) }
+    ensures { result ≡ spec.function_type (knowledge.meaning_in (in_table table.now returned)) }
 {
     if is_void(table, returned) {
         Some(a_type(Shape::Function, 0))
@@ -130,34 +140,105 @@ fn function_type(table: &Table, returned: u32) -> Option<Known>
     }
 }
 
-pub fn is_type(opcode: u16) -> bool
-    ensures { result ≡ spec.is_type opcode }
+/// The type that an instruction declares, where it is allowed.
+#[tactic(auto, unfolding(valid_model::specs::Types::type_of))]
+pub fn type_of(alloc: Global, table: &Table, inst: &Inst) -> Result<Option<Known>, AllocError>
+    ensures { IfOk result (λ made. made ≡ spec.type_of (in_table table.now) inst.now) }
 {
-    opcode >= op::TYPE_VOID && opcode <= op::TYPE_FUNCTION
-}
-
-/// The type that an instruction with these words declares, where it is allowed.
-#[tactic(auto, unfolding(spirv_model::specs::Meanings::type_of))]
-pub fn type_of(
-    alloc: Global,
-    table: &Table,
-    opcode: u16,
-    words: &[u32],
-) -> Result<Option<Known>, AllocError>
-    ensures { IfOk result (λ made. made ≡ spec.type_of (in_table table.now) opcode words.now) }
-{
-    Ok(match opcode {
+    Ok(match inst.op {
         op::TYPE_VOID => Some(a_type(Shape::Void, 0)),
         op::TYPE_BOOL => Some(a_type(Shape::Bool, 1)),
-        op::TYPE_INT => integer_type(word(words, 1), word(words, 2)),
-        op::TYPE_VECTOR => vector_type(table, word(words, 1), word(words, 2)),
+        op::TYPE_INT => integer_type(inst.word(1), inst.word(2)),
+        op::TYPE_VECTOR => vector_type(table, inst.word(1), inst.word(2)),
         op::TYPE_ARRAY => {
-            let len = length(table, word(words, 2));
-            array_type(table, word(words, 1), len)
+            let len = length(table, inst.word(2));
+            array_type(table, inst.word(1), len)
         }
-        op::TYPE_STRUCT => struct_type(alloc, table, words_from(words, 1))?,
-        op::TYPE_POINTER => pointer_type(table, word(words, 1), word(words, 2)),
-        op::TYPE_FUNCTION => function_type(table, word(words, 1)),
+        op::TYPE_STRUCT => struct_type(alloc, table, inst.words_from(1))?,
+        op::TYPE_POINTER => pointer_type(table, inst.word(1), inst.word(2)),
+        op::TYPE_FUNCTION => function_type(table, inst.word(1)),
         _ => None,
     })
+}
+
+fn is_pointer_of(table: &Table, class: u32, id: u32) -> bool
+    ensures { result ≡ spec.is_pointer_of class (knowledge.meaning_in (in_table table.now id)) }
+{
+    match table.get(&id) {
+        Some(
+            Known {
+                meaning: Meaning::Shape(Shape::Pointer { class: own, .. }),
+                ..
+            },
+        ) => u32::from(*own) == class,
+        _ => false,
+    }
+}
+
+fn is_function(table: &Table, id: u32) -> bool
+    ensures { result ≡ spec.is_function (knowledge.meaning_in (in_table table.now id)) }
+{
+    matches!(
+        table.get(&id),
+        Some(Known {
+            meaning: Meaning::Shape(Shape::Function),
+            ..
+        })
+    )
+}
+
+#[tactic(auto, unfolding(valid_model::specs::Types::breaks_types))]
+pub fn breaks_types(alloc: Global, table: &Table, inst: &Inst) -> Result<bool, AllocError>
+    ensures { IfOk result (λ breaks. breaks ≡ spec.breaks_types (in_table table.now) inst.now) }
+{
+    if is_type(inst.op) {
+        let made = type_of(alloc, table, inst)?;
+        return Ok(made.is_none());
+    }
+    Ok(match inst.op {
+        op::VARIABLE => !is_pointer_of(table, inst.word(2), inst.word(0)),
+        op::FUNCTION => !(is_void(table, inst.word(0)) && is_function(table, inst.word(3))),
+        _ => false,
+    })
+}
+
+/// The id of the instruction's result type.
+#[tactic(auto, unfolding(valid_model::specs::Types::result_type))]
+fn result_type(inst: &Inst) -> Option<u32>
+    ensures { result ≡ spec.result_type inst.now }
+{
+    let Some(Entry::Listed(operands)) = entry_of(inst.op) else {
+        return None;
+    };
+    match operands.listed.0 {
+        Some(Operand::IdResultType) => Some(inst.word(0)),
+        _ => None,
+    }
+}
+
+/// Whether a type is defined there, after the place.
+fn is_type_after(insts: &[Inst], place: usize, at: Option<u32>) -> bool
+    ensures { result ≡ spec.is_type_after insts.now place at }
+{
+    let Some(at) = at else {
+        return false;
+    };
+    let at = at as usize;
+    if at >= insts.len() {
+        return false;
+    }
+    place < at && is_type(inst_at(insts, at).op)
+}
+
+/// Whether the result type is a type that is defined later.
+#[tactic(auto, unfolding(valid_model::specs::Types::has_later_type))]
+pub fn has_later_type(insts: &[Inst], places: &Places, place: usize) -> bool
+    requires within { place < length insts.now }
+    requires defined { HasPlaces places.now insts.now }
+    ensures { result ≡ spec.has_later_type insts.now place }
+{
+    let Some(ty) = result_type(inst_at(insts, place)) else {
+        return false;
+    };
+    is_type_after(insts, place, places.get(&ty).copied())
 }

@@ -1,15 +1,15 @@
 //! Which variables are allowed by their decorations.
 ghost use Rattle.std.specs.Prelude.{◌≡◌};
-ghost use Rattle.spirv_model.specs.Decorations as spec;
+ghost use Rattle.valid_model.specs.Variables as spec;
 ghost use Rattle.spv_types.specs.FactsIn.{facts_in, before_in};
 
 use crate::blocks::points_to_block;
-use crate::facts::{Whole, decoration_of, has_position, is_decorated};
-use crate::seen::Seen;
+use crate::earlier_facts::EarlierTables;
+use crate::module_facts::{ModuleTables, decoration_of, has_position, is_decorated};
 use crate::shapes::holds_integers;
 use spirv_model::{class, decoration};
 
-fn bad_interface(whole: &Whole, id: u32, class: u32) -> bool
+fn bad_interface(whole: &ModuleTables, id: u32, class: u32) -> bool
     ensures { result ≡ spec.bad_interface (facts_in whole.now) id class }
 {
     (class == class::INPUT || class == class::OUTPUT)
@@ -17,13 +17,13 @@ fn bad_interface(whole: &Whole, id: u32, class: u32) -> bool
             == is_decorated(whole, id, decoration::BUILT_IN)
 }
 
-fn bad_location(whole: &Whole, id: u32, ty: u32) -> bool
+fn bad_location(whole: &ModuleTables, id: u32, ty: u32) -> bool
     ensures { result ≡ spec.bad_location (facts_in whole.now) id ty }
 {
     is_decorated(whole, id, decoration::LOCATION) && !holds_integers(whole, ty)
 }
 
-fn bad_slot(seen: &Seen, set: Option<u32>, binding: Option<u32>) -> bool
+fn bad_slot(seen: &EarlierTables, set: Option<u32>, binding: Option<u32>) -> bool
     ensures { result ≡ spec.bad_slot (before_in seen.now) set binding }
 {
     match (set, binding) {
@@ -32,7 +32,7 @@ fn bad_slot(seen: &Seen, set: Option<u32>, binding: Option<u32>) -> bool
     }
 }
 
-fn bad_uniform(whole: &Whole, seen: &Seen, ty: u32, id: u32, class: u32) -> bool
+fn bad_uniform(whole: &ModuleTables, seen: &EarlierTables, ty: u32, id: u32, class: u32) -> bool
     ensures { result ≡ spec.bad_uniform (facts_in whole.now) (before_in seen.now) ty id class }
 {
     let set = decoration_of(whole, id, decoration::DESCRIPTOR_SET);
@@ -40,21 +40,27 @@ fn bad_uniform(whole: &Whole, seen: &Seen, ty: u32, id: u32, class: u32) -> bool
     class == class::UNIFORM && (bad_slot(seen, set, binding) || !points_to_block(whole, ty))
 }
 
-fn bad_push(whole: &Whole, seen: &Seen, ty: u32, class: u32) -> bool
+fn bad_push(whole: &ModuleTables, seen: &EarlierTables, ty: u32, class: u32) -> bool
     ensures { result ≡ spec.bad_push (facts_in whole.now) (before_in seen.now) ty class }
 {
     class == class::PUSH_CONSTANT && (seen.push || !points_to_block(whole, ty))
 }
 
-fn second_position(whole: &Whole, seen: &Seen, id: u32) -> bool
+fn second_position(whole: &ModuleTables, seen: &EarlierTables, id: u32) -> bool
     ensures { result ≡ spec.second_position (facts_in whole.now) (before_in seen.now) id }
 {
     has_position(whole, id) && seen.position
 }
 
 /// Whether OpVariable mustn't have this type, id and class.
-#[tactic(auto, unfolding(spirv_model::specs::Decorations::bad_variable))]
-pub fn bad_variable(whole: &Whole, seen: &Seen, ty: u32, id: u32, class: u32) -> bool
+#[tactic(auto, unfolding(valid_model::specs::Variables::bad_variable))]
+pub fn bad_variable(
+    whole: &ModuleTables,
+    seen: &EarlierTables,
+    ty: u32,
+    id: u32,
+    class: u32,
+) -> bool
     ensures { result ≡ spec.bad_variable (facts_in whole.now) (before_in seen.now) ty id class }
 {
     bad_interface(whole, id, class)

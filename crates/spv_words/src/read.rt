@@ -5,8 +5,9 @@ ghost use Rattle.spv_words.specs.Writing.{AreShort};
 
 use crate::operands::fit;
 use crate::table::entry_of;
+use limits::{MAX_BOUND, MODULE_WORDS};
 use spirv_model::table::Entry;
-use spirv_model::{BOUND_LIMIT, HEADER_WORDS, Inst, Items, MAGIC, WORDS_LIMIT, Words, WordsFault};
+use spirv_model::{HEADER_WORDS, Inst, Items, MAGIC, Words, WordsFault};
 use std::alloc::Global;
 
 /// The instructions of a module's words in their order, and its id bound (SPIR-V specification, section 2.3 "Physical
@@ -39,17 +40,17 @@ fn has_header(words: &[u32]) -> bool
     let &[magic, version, _, bound, schema, ..] = words else {
         return false;
     };
-    words.len() <= WORDS_LIMIT
+    words.len() <= MODULE_WORDS
         && magic == MAGIC
         && is_version(version)
         && bound > 0
-        && bound <= BOUND_LIMIT
+        && bound <= MAX_BOUND
         && schema == 0
 }
 
 /// The list of the words after the header.
 fn list(alloc: Global, words: &[u32]) -> Result<Items<Inst>, WordsFault>
-    requires { length words.now ≤ WORDS_LIMIT }
+    requires { length words.now ≤ MODULE_WORDS }
     ensures gives { spec.Gives result (spec.list_of_cut 0 (spec.cut words.now)) }
     ensures short { IfOk result (λ insts. AreShort insts) }
 {

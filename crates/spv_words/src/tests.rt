@@ -2,7 +2,8 @@ use crate::samples::{ATTRIBUTE, CONSTANT, POINT, QUOTIENT, UNIFORM};
 use crate::{
     Entry, Inst, Items, WordsFault, entry_of, ids, ids_are_below, read_module, result, write_module,
 };
-use spirv_model::{BOUND_LIMIT, WORDS_LIMIT, op};
+use limits::{MAX_BOUND, MODULE_WORDS};
+use spirv_model::op;
 use std::alloc::{AllocError, Global};
 use std::test::Fail;
 
@@ -45,7 +46,7 @@ fn a_header_is_tested(rt: HostRuntime) {
         (&[], Some(WordsFault::BadHeader)),
         (&[0x7230203, 0x10000, 0, 12], Some(WordsFault::BadHeader)),
         (&[0x7230203, 0x10000, 0, 12, 0], None),
-        (&[0x7230203, 0x10600, 7, BOUND_LIMIT, 0], None),
+        (&[0x7230203, 0x10600, 7, MAX_BOUND, 0], None),
         (&[0x7230203, 0x10700, 0, 12, 0], Some(WordsFault::BadHeader)),
         (&[0x7230203, 0x20000, 0, 12, 0], Some(WordsFault::BadHeader)),
         (&[0x7230203, 0x10001, 0, 12, 0], Some(WordsFault::BadHeader)),
@@ -72,10 +73,10 @@ fn a_header_is_tested(rt: HostRuntime) {
 #[test]
 fn a_module_has_at_most_the_limit_of_words(rt: HostRuntime) -> Result<(), Fail> {
     // a word that is an OpNop of its own
-    let mut words = [0x10000; WORDS_LIMIT + 1];
+    let mut words = [0x10000; MODULE_WORDS + 1];
     words[0] = 0x7230203;
     words[4] = 0;
-    let (most, _) = words.split_at(WORDS_LIMIT);
+    let (most, _) = words.split_at(MODULE_WORDS);
     assert_eq!(rt; read_module(rt.alloc(), most)?.insts.as_slice().len(), 0);
     assert_eq!(rt;
         read_module(rt.alloc(), &words).err(),

@@ -3,7 +3,8 @@ ghost use Rattle.spirv_model.specs.Module as spec;
 ghost use Rattle.spv_words.specs.Writing.{AreShort, ReadsAgain};
 
 use crate::Memory;
-use spirv_model::{BOUND_LIMIT, Inst, MAGIC, OPERAND_WORDS_LIMIT, VERSION};
+use limits::MAX_BOUND;
+use spirv_model::{Inst, MAGIC, OPERAND_WORDS_LIMIT, VERSION};
 use std::alloc::Global;
 
 /// The words of a module with these instructions and this id bound (SPIR-V specification, section 2.3 "Physical Layout of
@@ -12,7 +13,7 @@ use std::alloc::Global;
 pub fn write_module(alloc: Global, insts: &[Inst], bound: u32) -> Result<Vec<u32>, Memory>
     requires short { AreShort insts.now }
     requires bound_least { 1 ≤ bound }
-    requires bound_most { bound ≤ BOUND_LIMIT }
+    requires bound_most { bound ≤ MAX_BOUND }
     ensures words { IfOk result (λ words. words.items ≡ spec.module_words insts.now bound) }
     ensures read_again { IfOk result (λ words. ReadsAgain insts.now bound words.items) }
 {

@@ -1,8 +1,8 @@
 use Rattle.std.proofs.Common.{◌≡◌, ℕ, ◌≤◌, length, List, ◌∷◌, Option, None, Some, refl, sym, arith}
 use Rattle.std.specs.Option.{option_map, option_and_then}
-use Rattle.spirv_model.specs.declared.scalar_value.Scalar.{Scalar}
-use Rattle.spirv_model.specs.declared.scalar_value.Scalar.TheVariants.{Bool as Truth, Word}
-use Rattle.spirv_model.specs.Scalars.{scalar_result, folded, all_known}
+use Rattle.scalar_model.specs.declared.scalar_value.Scalar.{Scalar}
+use Rattle.scalar_model.specs.declared.scalar_value.Scalar.TheVariants.{Bool as Truth, Word}
+use Rattle.scalar_model.specs.Scalars.{scalar_result, folded, all_known}
 use Rattle.spv_ops.proofs.fold_one.Goals as goal
 
 -- no operation has four operands

@@ -2,7 +2,7 @@ use Rattle.std.proofs.Common.{◌≡◌, ℕ, zero, suc, ◌<◌, ◌^◌, ◌�
 use Rattle.std.proofs.Math.Nat.{div-le_self}
 use Rattle.std.proofs.lemmas.Int.{of_z-to_z}
 use Rattle.std.proofs.lemmas.Bool.Decides.{nat_tests}
-use Rattle.spirv_model.specs.Scalars.{divided, signed_quotient}
+use Rattle.scalar_model.specs.Scalars.{divided, signed_quotient}
 use Rattle.spv_ops.proofs.words.signed_quotient.Goals as goal
 
 -- the quotient of -2^31 by -1 has the low bits that the definition takes

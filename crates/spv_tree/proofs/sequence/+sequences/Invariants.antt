@@ -1,20 +1,20 @@
 use Rattle.std.proofs.Common.{◌-◌, ◌*◌, length}
-use Rattle.spirv_model.specs.declared.grammar.TheConstants.{NESTING_LIMIT}
+use Rattle.limits.specs.declared.TheConstants.{NESTING}
 use Rattle.spv_tree.proofs.Fronts.{Front}
 use Rattle.spv_tree.proofs.sequence.+sequences.Given as goal
 
 -- the selections and loops that may still open, three calls each
 abbrev pub decreases-sequence : goal.decreases-sequence
-decreases-sequence l = 3 * (NESTING_LIMIT - l.scope.depth)
+decreases-sequence l = 3 * (NESTING - l.scope.depth)
 
 abbrev pub decreases-choice : goal.decreases-choice
-decreases-choice l = 3 * (NESTING_LIMIT - l.scope.depth) - 1
+decreases-choice l = 3 * (NESTING - l.scope.depth) - 1
 
 abbrev pub decreases-round : goal.decreases-round
-decreases-round l = 3 * (NESTING_LIMIT - l.scope.depth) - 1
+decreases-round l = 3 * (NESTING - l.scope.depth) - 1
 
 abbrev pub decreases-arm : goal.decreases-arm
-decreases-arm l = 3 * (NESTING_LIMIT - l.scope.depth) - 2
+decreases-arm l = 3 * (NESTING - l.scope.depth) - 2
 
 abbrev pub invariant-sequence-loop-fault : goal.invariant-sequence-loop-fault
 invariant-sequence-loop-fault l = Front l.insts l.fn.scope l.fn.wanted l.fn.place l.nodes l.scope l.wanted l.place

@@ -1,6 +1,6 @@
 use Rattle.std.proofs.Common.{arith}
 use Rattle.std.proofs.lemmas.Result.{err_from_is_err_and}
-use Rattle.spirv_model.specs.TreeFaults.{tree_fault}
+use Rattle.body_model.specs.TreeFaults.{tree_fault}
 use Rattle.spv_tree.specs.Views.{Finds}
 use Rattle.spv_tree.proofs.Faults.{is_fault}
 use Rattle.spv_tree.proofs.ModuleWalks.{exactly, tree_fits, begins_within, sequence_fails, closing_fails}

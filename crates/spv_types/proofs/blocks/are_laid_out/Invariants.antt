@@ -1,5 +1,5 @@
 use Rattle.std.proofs.Common.{◌≡◌, drop}
-use Rattle.spirv_model.specs.Decorations.{are_laid_out}
+use Rattle.valid_model.specs.Blocks.{are_laid_out}
 use Rattle.spv_types.specs.FactsIn.{facts_in}
 use Rattle.spv_types.proofs.blocks.are_laid_out.Given as goal
 

@@ -1,7 +1,7 @@
 use Rattle.std.proofs.Common.{arith}
 use Rattle.std.proofs.Math.Path.{fun_ext}
 use Rattle.std.proofs.lemmas.Grind.{common_steps}
-use Rattle.spirv_model.specs.Meanings.{known_by}
+use Rattle.valid_model.specs.Meanings.{known_by}
 use Rattle.spv_types.proofs.Passing.{known_step}
 use Rattle.spv_types.proofs.pass.go_over.Goals as goal
 

@@ -1,5 +1,5 @@
 use Rattle.std.proofs.Common.{◌≡◌, take}
-use Rattle.spirv_model.specs.Meanings.{known_by}
+use Rattle.valid_model.specs.Meanings.{known_by}
 use Rattle.spv_types.specs.Tables.{in_table, FindsFirst}
 use Rattle.spv_types.proofs.pass.go_over.Given as goal
 

@@ -1,7 +1,0 @@
-use Rattle.std.proofs.Common.{◌≡◌, ℕ, take}
-use Rattle.spirv_model.specs.Decorations.{offset_of}
-use Rattle.spv_types.specs.Pairs.{at_pair}
-use Rattle.spv_types.proofs.decorations.offsets_of.Given as goal
-
-abbrev pub invariant-loop-inst : goal.invariant-loop-inst
-invariant-loop-inst l = (id member : ℕ) → at_pair l.offsets id member ≡ offset_of (take l.inst-index l.insts) id member

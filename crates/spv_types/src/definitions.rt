@@ -1,0 +1,65 @@
+//! Which instruction defines an id, and whether ids stand below the bound.
+ghost use Rattle.std.specs.Prelude.{◌≡◌, ℕ, ◌<◌, ◌^◌, List, length, IfOk, OnOk};
+ghost use Rattle.spirv_model.specs.declared.module.Inst.{Inst};
+ghost use Rattle.spirv_model.specs.Operands as operands;
+ghost use Rattle.valid_model.specs.Definitions as spec;
+ghost use Rattle.spv_types.specs.Tables.{in_places, first_place, HasPlaces};
+
+use spirv_model::Inst;
+use spv_words::{ids_are_below, result};
+use std::alloc::{AllocError, Global};
+use std::collections::BTreeMap;
+
+/// The place of each id's definition.
+pub type Places = BTreeMap<u32, u32>;
+
+pub fn inst_at(insts: &[Inst], place: usize) -> &Inst
+    requires { place < length insts.now }
+    ensures { result.now ≡ spec.inst_at insts.now place }
+{
+    &insts[place]
+}
+
+/// The place of each id's definition.
+pub fn definitions(alloc: Global, insts: &[Inst]) -> Result<Places, AllocError>
+    requires { length insts.now < 2 ^ 32 }
+    ensures { IfOk result (λ places. HasPlaces places insts.now) }
+{
+    let mut places = BTreeMap::new(alloc);
+    for place in 0..insts.len() {
+        define_place(&mut places, inst_at(insts, place), place as u32)?;
+    }
+    Ok(places)
+}
+
+fn define_place(places: &mut Places, inst: &Inst, place: u32) -> Result<(), AllocError>
+    ensures { OnOk result ((id : ℕ) → in_places places.new id ≡ first_place (in_places places.old id) (spec.gives id inst.now) place) }
+{
+    let Some(id) = result(inst) else {
+        return Ok(());
+    };
+    if !places.contains_key(&id) {
+        places.insert(id, place)?;
+    }
+    Ok(())
+}
+
+/// The id of the instruction's result, where an earlier instruction has that result.
+pub fn id_twice(places: &Places, inst: &Inst, place: usize) -> Option<u32>
+    ensures { (insts : List Inst) → HasPlaces places.now insts → result ≡ spec.twice_by insts place (operands.result inst.now) }
+{
+    let id = result(inst)?;
+    let at = places.get(&id)?;
+    if (*at as usize) < place {
+        Some(id)
+    } else {
+        None
+    }
+}
+
+#[tactic(auto, unfolding(valid_model::specs::Definitions::id_out_of_bound))]
+pub fn id_out_of_bound(bound: u32, inst: &Inst) -> bool
+    ensures { result ≡ spec.id_out_of_bound bound inst.now }
+{
+    !ids_are_below(inst, bound)
+}

@@ -1,0 +1,157 @@
+//! What is known of the ids of a module, and what that says of types and of constants.
+ghost use Rattle.std.specs.Prelude.{◌≡◌};
+ghost use Rattle.valid_model.specs.Knowledge as spec;
+ghost use Rattle.spv_types.specs.Tables.{in_table};
+
+use spirv_model::class;
+use std::collections::BTreeMap;
+use valid_model::{Known, Meaning, Shape};
+
+/// What is known of each id that is defined so far.
+pub type Table = BTreeMap<u32, Known>;
+
+pub fn is_void(table: &Table, id: u32) -> bool
+    ensures { result ≡ spec.is_void (spec.meaning_in (in_table table.now id)) }
+{
+    matches!(
+        table.get(&id),
+        Some(Known {
+            meaning: Meaning::Shape(Shape::Void),
+            ..
+        })
+    )
+}
+
+pub fn is_bool(table: &Table, id: u32) -> bool
+    ensures { result ≡ spec.is_bool (spec.meaning_in (in_table table.now id)) }
+{
+    matches!(
+        table.get(&id),
+        Some(Known {
+            meaning: Meaning::Shape(Shape::Bool),
+            ..
+        })
+    )
+}
+
+pub fn is_integer(table: &Table, id: u32) -> bool
+    ensures { result ≡ spec.is_integer (spec.meaning_in (in_table table.now id)) }
+{
+    matches!(
+        table.get(&id),
+        Some(Known {
+            meaning: Meaning::Shape(Shape::Int { .. }),
+            ..
+        })
+    )
+}
+
+fn is_data_shape(shape: &Shape) -> bool
+    ensures { result ≡ spec.is_data_shape shape.now }
+{
+    !matches!(shape, Shape::Void | Shape::Pointer { .. } | Shape::Function)
+}
+
+pub fn is_data(table: &Table, id: u32) -> bool
+    ensures { result ≡ spec.is_data (spec.meaning_in (in_table table.now id)) }
+{
+    match table.get(&id) {
+        Some(
+            Known {
+                meaning: Meaning::Shape(shape),
+                ..
+            },
+        ) => is_data_shape(shape),
+        _ => false,
+    }
+}
+
+/// The words of the type's values.
+pub fn size(table: &Table, id: u32) -> u32
+    ensures { result ≡ spec.size_in (in_table table.now id) }
+{
+    table.get(&id).map_or(0, |known| known.size)
+}
+
+/// The elements of an array that has this id for its length.
+pub fn length(table: &Table, id: u32) -> u32
+    ensures { result ≡ spec.length_in (in_table table.now id) }
+{
+    table.get(&id).map_or(0, |known| known.length)
+}
+
+pub fn is_storage_class(class: u32) -> bool
+    ensures { result ≡ spec.is_storage_class class }
+{
+    class == class::INPUT
+        || class == class::UNIFORM
+        || class == class::OUTPUT
+        || class == class::PRIVATE
+        || class == class::FUNCTION
+        || class == class::PUSH_CONSTANT
+}
+
+pub fn a_type(shape: Shape, size: u32) -> Known
+    ensures { result ≡ spec.a_type shape size }
+{
+    Known {
+        meaning: Meaning::Shape(shape),
+        size,
+        length: 0,
+    }
+}
+
+pub fn means(meaning: Meaning) -> Known
+    ensures { result ≡ spec.means meaning }
+{
+    Known {
+        meaning,
+        size: 0,
+        length: 0,
+    }
+}
+
+/// Whether the id is a constant of this type.
+pub fn is_constant_of(table: &Table, ty: u32, id: u32) -> bool
+    ensures { result ≡ spec.is_constant_of ty (spec.meaning_in (in_table table.now id)) }
+{
+    match table.get(&id) {
+        Some(
+            Known {
+                meaning: Meaning::Constant { ty: own },
+                ..
+            },
+        ) => *own == ty,
+        _ => false,
+    }
+}
+
+/// Whether the id is a constant whose type is OpTypeBool.
+pub fn is_truth(table: &Table, id: u32) -> bool
+    ensures { result ≡ spec.is_bool (spec.constant_type (in_table table.now) id) }
+{
+    match table.get(&id) {
+        Some(
+            Known {
+                meaning: Meaning::Constant { ty },
+                ..
+            },
+        ) => is_bool(table, *ty),
+        _ => false,
+    }
+}
+
+/// Whether the id is a constant whose type is an integer.
+pub fn is_word(table: &Table, id: u32) -> bool
+    ensures { result ≡ spec.is_integer (spec.constant_type (in_table table.now) id) }
+{
+    match table.get(&id) {
+        Some(
+            Known {
+                meaning: Meaning::Constant { ty },
+                ..
+            },
+        ) => is_integer(table, *ty),
+        _ => false,
+    }
+}

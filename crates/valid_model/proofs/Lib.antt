@@ -1,0 +1,3 @@
+mod DecorationRows
+pub mod KnownIds
+mod TypeRows

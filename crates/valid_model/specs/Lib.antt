@@ -1,0 +1,15 @@
+pub mod Blocks
+pub mod BuiltIns
+pub mod Constants
+pub mod DecorationWords
+pub mod Decorations
+pub mod Definitions
+pub mod EarlierFacts
+pub mod FirstFault
+pub mod Knowledge
+pub mod Meanings
+pub mod ModuleFacts
+pub mod Operations
+pub mod Shapes
+pub mod Types
+pub mod Variables
