@@ -1,11 +1,18 @@
--- The target after the draw of one point.
-use Rattle.std.specs.Prelude.{ℕ, Bool, true, false, ◌&&◌, if◌then◌else◌, List, [], map, slice_index, slice_index_or}
+-- The target after the draw of one point, by what its two invocations leave.
+use Rattle.std.specs.Prelude.{ℕ, ◌≤◌, Bool, true, false, ◌&&◌, if◌then◌else◌, List, [], ◌∷◌, map, slice_index, slice_index_or}
 use Rattle.std.specs.List.{flat_map, range_with_len}
+use Rattle.limits.specs.declared.TheConstants.{MAX_SIDE}
+use Rattle.state_model.specs.declared.parts.Topology.TheVariants.{Points}
 use Rattle.stage_model.specs.declared.outcome.Kind.{Kind}
 use Rattle.stage_model.specs.declared.outcome.Kind.TheVariants.{Done, Killed, Lost}
-use Rattle.stage_model.specs.Stage.{Outcome}
+use Rattle.stage_model.specs.declared.outcome.Ended.{Ended}
 use Rattle.draw_model.specs.declared.target.Target.{Target}
-use Rattle.draw_model.specs.Coverage.{covers_point}
+use Rattle.draw_model.specs.Coverage.{covered}
+
+-- its sides are within the limit
+pub record HasLimitedSides (target : Target) : Type 0 where
+  pub width : target.width ≤ MAX_SIDE
+  pub height : target.height ≤ MAX_SIDE
 
 -- the invocation wasn't lost, so its primitive is drawn
 abbrev pub is_drawn : Kind → Bool
@@ -20,20 +27,21 @@ writes Killed = false
 writes Lost = false
 
 -- the first component at the first location
-abbrev pub colour_of : Outcome → ℕ
+abbrev pub colour_of : Ended → ℕ
 colour_of fragment = slice_index (slice_index_or fragment.slots 0 []) 0
 
 -- the fragment of the point writes this pixel
-abbrev pub is_written : Outcome → Outcome → ℕ → ℕ → Bool
-is_written vertex fragment x y = is_drawn vertex.kind && covers_point vertex.position x y && writes fragment.kind
+abbrev pub is_written : Ended → Ended → ℕ → ℕ → Bool
+is_written vertex fragment x y =
+    is_drawn vertex.kind && covered Points (vertex.position ∷ []) x y && writes fragment.kind
 
 -- what a pixel holds after the draw
-abbrev pub pixel_after : Outcome → Outcome → ℕ → ℕ → ℕ → ℕ
+abbrev pub pixel_after : Ended → Ended → ℕ → ℕ → ℕ → ℕ
 pixel_after vertex fragment old y x = if is_written vertex fragment x y then colour_of fragment else old
 
 -- the pixels of a row, and of the cleared target, after the draw, row by row
-abbrev pub row_after : Outcome → Outcome → Target → ℕ → List ℕ
+abbrev pub row_after : Ended → Ended → Target → ℕ → List ℕ
 row_after vertex fragment target y = map (pixel_after vertex fragment target.clear y) (range_with_len 0 target.width)
 
-abbrev pub image : Outcome → Outcome → Target → List ℕ
+abbrev pub image : Ended → Ended → Target → List ℕ
 image vertex fragment target = flat_map (row_after vertex fragment target) (range_with_len 0 target.height)

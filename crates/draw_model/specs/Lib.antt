@@ -1,2 +1,5 @@
+pub mod Assembly
 pub mod Coverage
 pub mod Draw
+pub mod Fetch
+pub mod Pixel

@@ -2,7 +2,7 @@
 #![tactic(auto)]
 
 ghost use Rattle.std.specs.Prelude.{◌≡◌, ◌≤◌};
-ghost use Rattle.pixel_model.specs.Pixel.{passes_depth};
+ghost use Rattle.draw_model.specs.Pixel.{passes_depth};
 
 pub use state_model::{FragmentPart, Iface};
 

@@ -1,7 +1,6 @@
 //! The play of a trace: from the bytes of a source to the text in a sink.
 #![tactic(auto)]
 
-mod draw;
 mod outcome;
 mod player;
 mod read;

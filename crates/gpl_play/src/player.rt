@@ -2,6 +2,7 @@ ghost use Rattle.std.specs.Prelude.{◌≡◌, ◌≢◌, ◌≤◌, ◌⊎◌, 
 ghost use Rattle.std.specs.Option.{option_map};
 ghost use Rattle.std.specs.Io.KnownBytes.{IsAtEnd, Keeps};
 ghost use Rattle.gpl_edge.specs.Faults.{Rose};
+ghost use Rattle.draw_model.specs.Draw.{HasLimitedSides};
 ghost use Rattle.trace_model.specs.Form.{trace_of};
 ghost use Rattle.trace_model.specs.Meaning.{meaning};
 ghost use Rattle.trace_model.specs.Output.{due_text};
@@ -10,12 +11,12 @@ ghost use Rattle.trace_model.specs.declared.trace.Cause.TheVariants.{NotYet};
 ghost use Rattle.gpl_play.specs.Reads.{Reads};
 ghost use Rattle.gpl_play.specs.Runs.{IsPlay, WritesDue, WritesDueFront, IsNoTrace};
 
-use crate::draw::image;
 use crate::outcome::Outcome;
 use crate::read::{ReadStop, read_all};
 use crate::status::{DONE, NO_MEMORY, READ_FAILED, REFUSED, USAGE, WRITE_FAILED};
 use crate::write::write_all;
 use gpl_edge::{Gate, Sink, Source};
+use int_device::draw;
 use spv_exec::run_flat;
 use std::alloc::{AllocError, Global};
 use std::sync::Wait;
@@ -131,11 +132,12 @@ fn refused(fault: TraceFault) -> Outcome
 
 /// The text that is due to a trace.
 fn play(alloc: Global, trace: &Trace) -> Result<Vec<u8>, AllocError>
-    requires { IsSome (meaning trace.now) }
+    requires means { IsSome (meaning trace.now) }
+    requires target { HasLimitedSides trace.now.target }
     ensures { IfOk result (λ text. due_text trace.now ≡ Some text.items) }
 {
     let vertex = run_flat(alloc, trace.vertex.insts.as_slice())?;
     let fragment = run_flat(alloc, trace.fragment.insts.as_slice())?;
-    let words = image(alloc, &vertex, &fragment, &trace.target)?;
+    let words = draw(alloc, &vertex, &fragment, &trace.target)?;
     print_target(alloc, &trace.target, words.as_slice())
 }

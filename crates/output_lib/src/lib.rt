@@ -3,9 +3,9 @@
 
 ghost use Rattle.std.specs.Prelude.{◌≡◌, ◌≤◌};
 ghost use Rattle.std.specs.Option.{ForSome};
-ghost use Rattle.pixel_model.specs.Pixel.{logic_result, stored_pixel, written};
+ghost use Rattle.draw_model.specs.Pixel.{logic_result, stored_pixel, written};
 
-use state_model::COMPONENTS;
+use limits::COMPONENTS;
 pub use state_model::OutputPart;
 
 /// A fragment output interface library.

@@ -1,7 +1,7 @@
 -- Bounds on positions in the guard band, and on what is computed of them.
 use Rattle.std.specs.Prelude.{◌≤◌, ◌*◌, ℤ, pos, neg_ℤ, ◌≤ℤ◌, unsigned_abs}
-use Rattle.pixel_model.specs.declared.TheConstants.{GUARD_BAND}
-use Rattle.pixel_model.specs.declared.Position.{Position}
+use Rattle.limits.specs.declared.TheConstants.{GUARD_BAND}
+use Rattle.draw_model.specs.declared.position.Position.{Position}
 
 pub record IsWithinBand (z : ℤ) : Type 0 where
   pub low : neg_ℤ (pos GUARD_BAND) ≤ℤ z

@@ -1,17 +1,18 @@
 ghost use Rattle.std.specs.Prelude.{◌≡◌, ◌<◌, ◌↔◌, IsTrue, ◌*ℤ◌, ◌-ℤ◌, ℤ};
 ghost use Rattle.prerast_lib.specs.Guarded.{IsGuarded, IsWithinBand, IsDistance, IsProduct};
-ghost use Rattle.pixel_model.specs.Coverage.{covered, corner_position, is_guarded, lies_in, point_covers, pixel_centre, edge_value, owns_centres, is_inside, is_inside_all, triangle_covers};
+ghost use Rattle.draw_model.specs.Coverage.{covered, corner_position, is_guarded, lies_in, point_covers, pixel_centre, edge_value, owns_centres, is_inside, is_inside_all, triangle_covers};
 
-use pixel_model::{GUARD_BAND, Position, SIDE, SUBPIXELS};
-use state_model::{COMPONENTS, Topology};
+use draw_model::Position;
+use limits::{COMPONENTS, GUARD_BAND, MAX_SIDE, SUBPIXELS};
+use state_model::Topology;
 
 /// Whether a primitive covers the pixel (`x`, `y`) (Vulkan, "Basic Point Rasterization", "Basic Polygon
 /// Rasterization"). The corners are words x, y, z, w with x and y signed, in 1/256 pixel. For points only corner 0
 /// counts. Where a corner that counts is outside the guard band, and for a triangle without area, nothing is covered.
-#[tactic(auto, unfolding(pixel_model::specs::Coverage::covered))]
+#[tactic(auto, unfolding(draw_model::specs::Coverage::covered))]
 pub fn covers(topology: Topology, corners: &[[u32; COMPONENTS]; 3], x: u32, y: u32) -> bool
-    requires x { x < SIDE }
-    requires y { y < SIDE }
+    requires x { x < MAX_SIDE }
+    requires y { y < MAX_SIDE }
     ensures { result ≡ covered topology corners.now x y }
 {
     let a = position_of(&corners[0]);
@@ -37,7 +38,7 @@ fn position_of(words: &[u32; COMPONENTS]) -> Position
     }
 }
 
-#[tactic(auto, unfolding(pixel_model::specs::Coverage::is_guarded))]
+#[tactic(auto, unfolding(draw_model::specs::Coverage::is_guarded))]
 fn is_guarded(p: Position) -> bool
     ensures value { result ≡ is_guarded p }
     ensures fact { IsTrue result ↔ IsGuarded p }
@@ -47,23 +48,23 @@ fn is_guarded(p: Position) -> bool
 }
 
 fn point_covers(p: Position, x: u32, y: u32) -> bool
-    requires x { x < SIDE }
-    requires y { y < SIDE }
+    requires x { x < MAX_SIDE }
+    requires y { y < MAX_SIDE }
     ensures { result ≡ point_covers p x y }
 {
     lies_in(p.x, x) && lies_in(p.y, y)
 }
 
 fn lies_in(z: i64, pixel: u32) -> bool
-    requires { pixel < SIDE }
+    requires { pixel < MAX_SIDE }
     ensures { result ≡ lies_in z pixel }
 {
     i64::from(SUBPIXELS * pixel) <= z && z < i64::from(SUBPIXELS * (pixel + 1))
 }
 
 fn pixel_centre(x: u32, y: u32) -> Position
-    requires x { x < SIDE }
-    requires y { y < SIDE }
+    requires x { x < MAX_SIDE }
+    requires y { y < MAX_SIDE }
     ensures centre { result ≡ pixel_centre x y }
     ensures guarded { IsGuarded result }
 {
@@ -100,7 +101,7 @@ fn difference(a: i64, b: i64) -> i64
     a - b
 }
 
-#[tactic(auto, unfolding(pixel_model::specs::Coverage::edge_value))]
+#[tactic(auto, unfolding(draw_model::specs::Coverage::edge_value))]
 fn edge_value(p: Position, q: Position, at: Position) -> i64
     requires p { IsGuarded p }
     requires q { IsGuarded q }
@@ -115,14 +116,14 @@ fn edge_value(p: Position, q: Position, at: Position) -> i64
 
 // Of the centres on an edge, the edge to the right and the edge upwards have theirs: so one of two triangles that share an
 // edge has them.
-#[tactic(auto, unfolding(pixel_model::specs::Coverage::owns_centres))]
+#[tactic(auto, unfolding(draw_model::specs::Coverage::owns_centres))]
 fn owns_centres(p: Position, q: Position) -> bool
     ensures { result ≡ owns_centres p q }
 {
     q.y < p.y || (q.y == p.y && p.x < q.x)
 }
 
-#[tactic(auto, unfolding(pixel_model::specs::Coverage::is_inside))]
+#[tactic(auto, unfolding(draw_model::specs::Coverage::is_inside))]
 fn is_inside(at: Position, p: Position, q: Position) -> bool
     requires at { IsGuarded at }
     requires p { IsGuarded p }
@@ -133,7 +134,7 @@ fn is_inside(at: Position, p: Position, q: Position) -> bool
     0 < value || (value == 0 && owns_centres(p, q))
 }
 
-#[tactic(auto, unfolding(pixel_model::specs::Coverage::is_inside_all))]
+#[tactic(auto, unfolding(draw_model::specs::Coverage::is_inside_all))]
 fn is_inside_all(at: Position, a: Position, b: Position, c: Position) -> bool
     requires at { IsGuarded at }
     requires a { IsGuarded a }
@@ -144,7 +145,7 @@ fn is_inside_all(at: Position, a: Position, b: Position, c: Position) -> bool
     is_inside(at, a, b) && is_inside(at, b, c) && is_inside(at, c, a)
 }
 
-#[tactic(auto, unfolding(pixel_model::specs::Coverage::triangle_covers))]
+#[tactic(auto, unfolding(draw_model::specs::Coverage::triangle_covers))]
 fn triangle_covers(a: Position, b: Position, c: Position, at: Position) -> bool
     requires a { IsGuarded a }
     requires b { IsGuarded b }

@@ -4,7 +4,7 @@
 pub mod coverage;
 
 ghost use Rattle.std.specs.Prelude.{◌≡◌};
-ghost use Rattle.pixel_model.specs.Assembly.{first_vertex};
+ghost use Rattle.draw_model.specs.Assembly.{first_vertex};
 
 pub use coverage::covers;
 pub use state_model::{Iface, PrerastPart, Topology};

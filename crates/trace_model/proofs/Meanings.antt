@@ -9,7 +9,8 @@ use Rattle.spirv_model.specs.declared.module.Inst.{Inst}
 use Rattle.spirv_model.specs.declared.module.Words.{Words}
 use Rattle.spirv_model.specs.Module.{module_of, list_of_cut}
 use Rattle.spirv_model.specs.Operands.{entry_of, kinds}
-use Rattle.stage_model.specs.Stage.{Outcome, stage}
+use Rattle.stage_model.specs.Stage.{Outcome, stage, ended_of}
+use Rattle.basics.proofs.Bools.{chosen}
 use Rattle.draw_model.specs.declared.target.Target.{Target}
 use Rattle.draw_model.specs.Draw.{image}
 use Rattle.trace_model.specs.declared.modules.TheConstants.{X_PLACE, Z_PLACE, COLOUR_PLACE}
@@ -34,10 +35,6 @@ colour_has colour = refl
 bound : {A B : Type 0} (o : Option A) (f : A → Option B) (y : B) → (o >>= f) ≡ Some y → (x : A) × (o ≡ Some x) × (f x ≡ Some y)
 bound None f y h = cc
 bound (Some x) f y h = (x, refl, h)
-
-chosen : {A : Type 0} (b : Bool) (o : Option A) (y : A) → cond b o None ≡ Some y → (b ≡ true) × (o ≡ Some y)
-chosen true o y h = (refl, h)
-chosen false o y h = cc
 
 like : (form words : List ℕ) (found : Words) → module_like form words ≡ Some found → result_ok (module_of form) ≡ Some found
 like form words found h =
@@ -72,7 +69,7 @@ fragment_line_has lines found h =
     subst (λ (m : Words). IsSome (stage m.insts)) e (fragment_has b.0 d.0 d.1)
 
 both : (vertex fragment : Option Outcome) (target : Target) → IsSome vertex → IsSome fragment
-    → IsSome (vertex >>= λ v. option_map (λ f. image v f target) fragment)
+    → IsSome (vertex >>= λ v. option_map (λ f. image (ended_of v) (ended_of f) target) fragment)
 both None fragment target p q = cc
 both (Some v) None target p q = cc
 both (Some v) (Some f) target p q = refl

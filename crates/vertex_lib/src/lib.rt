@@ -3,9 +3,10 @@
 
 ghost use Rattle.std.specs.Prelude.{◌≡◌, ◌<◌, ◌≤◌, IfSome, ℕ, ◌+◌, ◌*◌, ◌^◌};
 ghost use Rattle.state_model.specs.Lawful.{IsVertexPart, IsVertexBinding, IsAttribute};
-ghost use Rattle.pixel_model.specs.Fetch.{fetched, buffer_word, attribute_start, attribute_component, components};
+ghost use Rattle.draw_model.specs.Fetch.{fetched, buffer_word, attribute_start, attribute_component, components};
 
-use state_model::{Attribute, COMPONENTS, LOCATIONS, VertexBinding};
+use limits::{COMPONENTS, LOCATIONS};
+use state_model::{Attribute, VertexBinding};
 pub use state_model::{BINDINGS, Buffers, VertexPart};
 
 /// A vertex input interface library.
@@ -29,7 +30,7 @@ impl VertexLib {
     /// are bound by their numbers (Vulkan, "Vertex Input Address Calculation"). Strides and offsets are in 32-bit words. A
     /// word out of its buffer, or without a buffer, is 0, and so are the components that the attribute lacks and all four
     /// where there is no attribute.
-    #[tactic(auto, unfolding(pixel_model::specs::Fetch::fetched))]
+    #[tactic(auto, unfolding(draw_model::specs::Fetch::fetched))]
     pub fn fetch(
         &self,
         buffers: &Buffers,

@@ -1,7 +1,7 @@
 use Rattle.std.proofs.Common.{rules}
 use Rattle.std.proofs.lemmas.List.FromFn.{fill_by_all}
-use Rattle.state_model.specs.declared.TheConstants.{COMPONENTS}
-use Rattle.pixel_model.specs.Pixel.{stored_component, stored_pixel}
+use Rattle.limits.specs.declared.TheConstants.{COMPONENTS}
+use Rattle.draw_model.specs.Pixel.{stored_component, stored_pixel}
 use Rattle.output_lib.proofs.store_pixel.Goals as goal
 
 pub returns : goal.returns

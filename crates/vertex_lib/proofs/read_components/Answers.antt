@@ -1,7 +1,7 @@
 use Rattle.std.proofs.Common.{rules}
 use Rattle.std.proofs.lemmas.List.FromFn.{fill_by_all}
-use Rattle.state_model.specs.declared.TheConstants.{COMPONENTS}
-use Rattle.pixel_model.specs.Fetch.{attribute_component}
+use Rattle.limits.specs.declared.TheConstants.{COMPONENTS}
+use Rattle.draw_model.specs.Fetch.{attribute_component}
 use Rattle.vertex_lib.proofs.read_components.Goals as goal
 
 pub returns : goal.returns

@@ -1,6 +1,6 @@
 use Rattle.std.proofs.Common.{◌≡◌, ℕ, ◌<◌, length, get_or}
-use Rattle.state_model.specs.declared.TheConstants.{COMPONENTS}
-use Rattle.pixel_model.specs.Fetch.{attribute_component}
+use Rattle.limits.specs.declared.TheConstants.{COMPONENTS}
+use Rattle.draw_model.specs.Fetch.{attribute_component}
 use Rattle.vertex_lib.proofs.read_components.Given as goal
 
 abbrev pub invariant-loop-i : goal.invariant-loop-i

@@ -2,9 +2,15 @@ use Rattle.std.proofs.Common.{◌≡◌, ℕ, List, ap, subst, sym, ◌∙◌, N
 use Rattle.std.specs.Prelude.{IsSome}
 use Rattle.std.proofs.KnownBytes.{Keeps-refl}
 use Rattle.trace_model.specs.Form.{trace_of}
+use Rattle.trace_model.proofs.Targets.{trace-has_limited_sides}
 use Rattle.gpl_play.specs.Reads.{Reads}
 use Rattle.gpl_play.proofs.Outcomes.{writes_due, writes_due_front, left_one, right_one, is_trace}
 use Rattle.gpl_play.proofs.player.run.Goals as goal
+
+-- the target that was read is one that can be drawn on
+pub play-requires-clause-target : goal.play-requires-clause-target
+play-requires-clause-target g c =
+    trace-has_limited_sides c.as_slice.result.now c.in-Ok-read_trace.trace c.in-Ok-read_trace.ensures.exact
 
 -- memory ran out behind the trace
 pub returns-in_default-clause-refuses : goal.returns-in_default-clause-refuses

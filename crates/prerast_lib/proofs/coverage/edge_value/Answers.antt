@@ -1,6 +1,6 @@
 use Rattle.std.proofs.Common.{◌≡◌, ◌<◌, ◌^◌, ℤ, w64, to_z, of_z, rules}
 use Rattle.std.proofs.lemmas.Int.{to_z-of_z}
-use Rattle.pixel_model.specs.Coverage.{edge_value}
+use Rattle.draw_model.specs.Coverage.{edge_value}
 use lib.Signed.{mag}
 use Rattle.prerast_lib.proofs.coverage.edge_value.Goals as goal
 

@@ -1,7 +1,7 @@
 use Rattle.std.proofs.Common.{◌*◌, ◌*ℤ◌, w64, lit<}
 use Rattle.std.proofs.lemmas.Int.{to_z-of_z, fits_signed_mul, unsigned_abs-mul}
 use Rattle.std.proofs.Math.Nat.{mul-le-mul}
-use Rattle.pixel_model.specs.declared.TheConstants.{GUARD_BAND}
+use Rattle.limits.specs.declared.TheConstants.{GUARD_BAND}
 use Rattle.prerast_lib.proofs.coverage.product.Goals as goal
 
 pub returns-clause-value : goal.returns-clause-value

@@ -2,8 +2,8 @@
 use Rattle.std.specs.Prelude.{◌==◌, ℕ, ◌^◌, ◌/◌, ◌%◌, int_lt, Bool, true, false, ◌||◌, List, [], ◌∷◌, Option, map, slice_index, slice_index_or, if◌then◌else◌, bit_and, bit_or, bit_xor}
 use Rattle.std.specs.List.{range_with_len}
 use Rattle.std.specs.Option.{option_map_or}
-use Rattle.pixel_model.specs.Word.{signed_word, inverted}
-use Rattle.state_model.specs.declared.TheConstants.{COMPONENTS}
+use Rattle.basics.specs.Word.{signed_word, inverted}
+use Rattle.limits.specs.declared.TheConstants.{COMPONENTS}
 
 -- `VkCompareOp` 0 to 7, by what holds of the new and the old depth: below, equal, above
 abbrev pub comparison_results : (below equal above : Bool) → List Bool

@@ -3,7 +3,7 @@ use Rattle.std.specs.Prelude.{ℕ, ◌+◌, ◌*◌, List, Option, map, replicat
 use Rattle.std.specs.List.{range_with_len}
 use Rattle.std.specs.Option.{option_map_or, option_and_then}
 use Rattle.state_model.specs.Lawful.{present_at}
-use Rattle.state_model.specs.declared.TheConstants.{COMPONENTS}
+use Rattle.limits.specs.declared.TheConstants.{COMPONENTS}
 use Rattle.state_model.specs.declared.buffers.Buffers.{Buffers}
 use Rattle.state_model.specs.declared.parts.VertexBinding.{VertexBinding}
 use Rattle.state_model.specs.declared.parts.Attribute.{Attribute}

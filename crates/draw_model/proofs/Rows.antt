@@ -1,7 +1,7 @@
 -- Worked values of the definitions, computed.
 use Rattle.std.proofs.Common.{◌≡◌, ℕ, List, [], ◌∷◌, true, false, Bool, Some, map, refl}
-use Rattle.pixel_model.specs.Coverage.{covered, is_guarded, edge_value, owns_centres, is_inside, is_inside_all, triangle_covers}
-use Rattle.pixel_model.specs.Pixel.{passes_depth, stored_pixel, logic_result}
+use Rattle.draw_model.specs.Coverage.{covered, is_guarded, edge_value, owns_centres, is_inside, is_inside_all, triangle_covers}
+use Rattle.draw_model.specs.Pixel.{passes_depth, stored_pixel, logic_result}
 use Rattle.state_model.specs.declared.parts.Topology.TheVariants.{Points, Triangles}
 
 abbrev at : ℕ → ℕ → List ℕ
