@@ -2,8 +2,10 @@
 use Rattle.std.specs.Prelude.{ℕ, ◌+◌, Bool, true, false, ◌&&◌, ◌||◌, ◌==◌, nat_le, if◌then◌else◌, List, [], ◌∷◌, drop, take, Option, None, Some}
 use Rattle.limits.specs.declared.TheConstants.{NESTING}
 use Rattle.spirv_model.specs.declared.module.Inst.{Inst}
-use Rattle.spirv_model.specs.declared.op.TheConstants.{UNDEF, EXT_INST_IMPORT, MEMORY_MODEL, CAPABILITY, TYPE_VOID, SPEC_CONSTANT_OP, FUNCTION_END, VARIABLE, LOAD, STORE, ACCESS_CHAIN, DECORATE, MEMBER_DECORATE, VECTOR_SHUFFLE, NOT, PHI, LOOP_MERGE, SELECTION_MERGE, LABEL, BRANCH, BRANCH_CONDITIONAL, KILL, RETURN, UNREACHABLE}
-use Rattle.spirv_model.specs.Operands.{word_at}
+use Rattle.spirv_model.specs.declared.class.Class.{Class}
+use Rattle.spirv_model.specs.declared.class.Class.TheVariants as class
+use Rattle.spirv_model.specs.declared.op.TheConstants.{FUNCTION_END, VARIABLE, PHI, LOOP_MERGE, SELECTION_MERGE, LABEL, BRANCH, BRANCH_CONDITIONAL, KILL, RETURN, UNREACHABLE}
+use Rattle.spirv_model.specs.Operands.{word_at, class_of}
 use Rattle.body_model.specs.declared.grammar.LoopExits.{LoopExits}
 use Rattle.body_model.specs.declared.grammar.Scope.{Scope}
 use Rattle.body_model.specs.declared.grammar.End.{End}
@@ -13,18 +15,37 @@ use Rattle.body_model.specs.declared.grammar.BlockEnd.TheVariants.{Broken, Ends,
 use Rattle.body_model.specs.declared.grammar.TreeFault.{TreeFault}
 use Rattle.body_model.specs.declared.grammar.TreeFault.TheVariants.{BadBlock, BadMerge, BadExit, TooDeep}
 
--- an opcode of the module level
-abbrev pub is_module_level : ℕ → Bool
-is_module_level op =
-    (op == UNDEF) || (op == VARIABLE) || (op == EXT_INST_IMPORT) || (nat_le MEMORY_MODEL op && nat_le op CAPABILITY)
-    || (nat_le TYPE_VOID op && nat_le op SPEC_CONSTANT_OP) || (op == DECORATE) || (op == MEMBER_DECORATE)
+-- an instruction of the module level
+abbrev pub is_module_level_class : Option Class → Bool
+is_module_level_class (Some class.Setting) = true
+is_module_level_class (Some class.TypeDeclaration) = true
+is_module_level_class (Some class.Constant) = true
+is_module_level_class (Some class.SpecConstant) = true
+is_module_level_class (Some class.SpecConstantResult) = true
+is_module_level_class (Some class.Undef) = true
+is_module_level_class (Some class.Variable) = true
+is_module_level_class other = false
 
--- an opcode of a block that is no phi, variable, merge instruction or terminator
+abbrev pub is_module_level : ℕ → Bool
+is_module_level op = is_module_level_class (class_of op)
+
+-- an instruction of a block that is no phi, variable, merge instruction or terminator
+abbrev pub is_plain_class : Option Class → Bool
+is_plain_class (Some class.Undef) = true
+is_plain_class (Some class.Memory) = true
+is_plain_class (Some class.Composite) = true
+is_plain_class (Some (class.Scalar operation)) = true
+is_plain_class other = false
+
 abbrev pub is_plain : ℕ → Bool
-is_plain op = (op == UNDEF) || (op == LOAD) || (op == STORE) || (op == ACCESS_CHAIN) || (nat_le VECTOR_SHUFFLE op && nat_le op NOT)
+is_plain op = is_plain_class (class_of op)
+
+abbrev pub is_terminator_class : Option Class → Bool
+is_terminator_class (Some class.Terminator) = true
+is_terminator_class other = false
 
 abbrev pub is_terminator : ℕ → Bool
-is_terminator op = (op == BRANCH) || (op == BRANCH_CONDITIONAL) || (op == KILL) || (op == RETURN) || (op == UNREACHABLE)
+is_terminator op = is_terminator_class (class_of op)
 
 -- these instructions of a block lead to OpLoopMerge, so that the block is a loop's header
 abbrev pub leads_to_loop : List Inst → Bool

@@ -1,1 +1,2 @@
+mod ClassRows
 mod ScalarRows

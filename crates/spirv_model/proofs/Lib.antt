@@ -1,2 +1,4 @@
+mod Constants
 pub mod ModuleSizes
+mod OpcodeRows
 pub mod Samples

@@ -72,7 +72,7 @@ skips (Some Skipped) = true
 skips entry = false
 
 abbrev pub lists : Option Entry → Bool
-lists (Some (Listed operands)) = true
+lists (Some (Listed class operands)) = true
 lists entry = false
 
 abbrev pub floats : Option Entry → Bool

@@ -2,6 +2,7 @@
 use Rattle.std.specs.Prelude.{ℕ, suc, ◌/◌, ◌%◌, Bool, true, false, ◌==◌, if◌then◌else◌, List, [], ◌∷◌, ◌++◌, length, drop, map, replicate, slice_index, Option, None, Some}
 use Rattle.std.specs.Option.{option_map}
 use Rattle.spirv_model.specs.declared.module.Inst.{Inst}
+use Rattle.spirv_model.specs.declared.class.Class.{Class}
 use Rattle.spirv_model.specs.declared.table.Operand.{Operand}
 use Rattle.spirv_model.specs.declared.table.Operand.TheVariants.{IdResultType, IdResult, IdRef, LiteralInteger, Fixed, LiteralString}
 use Rattle.spirv_model.specs.declared.table.Rest.{Rest}
@@ -28,6 +29,14 @@ entry_in (row ∷ rows) op = if row.op == op then Some row.entry else entry_in r
 -- what is done with an opcode, where it is known
 unfoldable pub entry_of : ℕ → Option Entry
 entry_of op = entry_in ROWS op
+
+-- the class of an instruction of the list
+abbrev pub class_in : Option Entry → Option Class
+class_in (Some (Listed class operands)) = Some class
+class_in entry = None
+
+unfoldable pub class_of : ℕ → Option Class
+class_of op = class_in (entry_of op)
 
 -- what a word of a text says of the text's end: nothing, since it has no zero byte, or whether its bytes after the first zero byte are zeros
 abbrev pub text_end : ℕ → Option Bool
@@ -75,7 +84,7 @@ listed_of operands = operands.listed.0 ∷ operands.listed.1 ∷ operands.listed
 
 -- the operand that each word of an instruction is or belongs to, where its opcode is one of the list and its words fit the operands
 abbrev pub kinds_in : Option Entry → List ℕ → Option (List Operand)
-kinds_in (Some (Listed operands)) words = kinds_from (listed_of operands) operands.rest words
+kinds_in (Some (Listed class operands)) words = kinds_from (listed_of operands) operands.rest words
 kinds_in entry words = None
 
 unfoldable pub kinds : Inst → Option (List Operand)
@@ -108,7 +117,7 @@ result_place (Some IdResultType ∷ Some IdResult ∷ more) = Some 1
 result_place listed = None
 
 abbrev pub result_in : Option Entry → List ℕ → Option ℕ
-result_in (Some (Listed operands)) words = option_map (λ place. slice_index words place) (result_place (listed_of operands))
+result_in (Some (Listed class operands)) words = option_map (λ place. slice_index words place) (result_place (listed_of operands))
 result_in entry words = None
 
 -- the id that an instruction gives a meaning

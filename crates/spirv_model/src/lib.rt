@@ -7,6 +7,7 @@ pub mod decoration;
 pub mod execution_model;
 mod module;
 pub mod op;
+pub mod storage_class;
 pub mod table;
 
 pub use module::{HEADER_WORDS, Inst, MAGIC, OPERAND_WORDS_LIMIT, VERSION, Words, WordsFault};

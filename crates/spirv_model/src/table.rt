@@ -1,6 +1,7 @@
 //! The operands of each instruction, as one table (SPIR-V specification, section 3.49 "Instructions", and the
 //! instruction tables of its machine-readable grammar, whose names of operand kinds are used).
 
+use crate::class::{Class, ScalarClass};
 use crate::op;
 use crate::table::Operand::{Fixed, IdRef, IdResult, IdResultType, LiteralInteger, LiteralString};
 use crate::table::Rest::{IdRefs, LiteralIntegers, Nothing, PairsIdRefIdRef};
@@ -64,8 +65,8 @@ pub enum Entry {
     Skipped,
     /// OpTypeFloat: floating point isn't read.
     Float,
-    /// An instruction of the list, with these operands.
-    Listed(Operands),
+    /// An instruction of the list, of this class and with these operands.
+    Listed(Class, Operands),
 }
 
 /// An opcode and what is done with it.
@@ -339,7 +340,7 @@ pub static ROWS: [Row; 91] = [
     },
     Row {
         op: op::UNDEF,
-        entry: Entry::Listed(TYPED_RESULT),
+        entry: Entry::Listed(Class::Undef, TYPED_RESULT),
     },
     Row {
         op: op::SOURCE_CONTINUED,
@@ -371,35 +372,35 @@ pub static ROWS: [Row; 91] = [
     },
     Row {
         op: op::EXT_INST_IMPORT,
-        entry: Entry::Listed(RESULT_TEXT),
+        entry: Entry::Listed(Class::Setting, RESULT_TEXT),
     },
     Row {
         op: op::MEMORY_MODEL,
-        entry: Entry::Listed(WORD_WORD),
+        entry: Entry::Listed(Class::Setting, WORD_WORD),
     },
     Row {
         op: op::ENTRY_POINT,
-        entry: Entry::Listed(WORD_ID_TEXT_IDS),
+        entry: Entry::Listed(Class::Setting, WORD_ID_TEXT_IDS),
     },
     Row {
         op: op::EXECUTION_MODE,
-        entry: Entry::Listed(ID_ORIGIN),
+        entry: Entry::Listed(Class::Setting, ID_ORIGIN),
     },
     Row {
         op: op::CAPABILITY,
-        entry: Entry::Listed(SHADER_WORD),
+        entry: Entry::Listed(Class::Setting, SHADER_WORD),
     },
     Row {
         op: op::TYPE_VOID,
-        entry: Entry::Listed(RESULT),
+        entry: Entry::Listed(Class::TypeDeclaration, RESULT),
     },
     Row {
         op: op::TYPE_BOOL,
-        entry: Entry::Listed(RESULT),
+        entry: Entry::Listed(Class::TypeDeclaration, RESULT),
     },
     Row {
         op: op::TYPE_INT,
-        entry: Entry::Listed(RESULT_WORD_WORD),
+        entry: Entry::Listed(Class::TypeDeclaration, RESULT_WORD_WORD),
     },
     Row {
         op: op::TYPE_FLOAT,
@@ -407,287 +408,371 @@ pub static ROWS: [Row; 91] = [
     },
     Row {
         op: op::TYPE_VECTOR,
-        entry: Entry::Listed(RESULT_ID_WORD),
+        entry: Entry::Listed(Class::TypeDeclaration, RESULT_ID_WORD),
     },
     Row {
         op: op::TYPE_ARRAY,
-        entry: Entry::Listed(RESULT_ID_ID),
+        entry: Entry::Listed(Class::TypeDeclaration, RESULT_ID_ID),
     },
     Row {
         op: op::TYPE_STRUCT,
-        entry: Entry::Listed(RESULT_IDS),
+        entry: Entry::Listed(Class::TypeDeclaration, RESULT_IDS),
     },
     Row {
         op: op::TYPE_POINTER,
-        entry: Entry::Listed(RESULT_WORD_ID),
+        entry: Entry::Listed(Class::TypeDeclaration, RESULT_WORD_ID),
     },
     Row {
         op: op::TYPE_FUNCTION,
-        entry: Entry::Listed(RESULT_ID),
+        entry: Entry::Listed(Class::TypeDeclaration, RESULT_ID),
     },
     Row {
         op: op::CONSTANT_TRUE,
-        entry: Entry::Listed(TYPED_RESULT),
+        entry: Entry::Listed(Class::Constant, TYPED_RESULT),
     },
     Row {
         op: op::CONSTANT_FALSE,
-        entry: Entry::Listed(TYPED_RESULT),
+        entry: Entry::Listed(Class::Constant, TYPED_RESULT),
     },
     Row {
         op: op::CONSTANT,
-        entry: Entry::Listed(TYPED_RESULT_WORD),
+        entry: Entry::Listed(Class::Constant, TYPED_RESULT_WORD),
     },
     Row {
         op: op::CONSTANT_COMPOSITE,
-        entry: Entry::Listed(TYPED_RESULT_IDS),
+        entry: Entry::Listed(Class::Constant, TYPED_RESULT_IDS),
     },
     Row {
         op: op::CONSTANT_NULL,
-        entry: Entry::Listed(TYPED_RESULT),
+        entry: Entry::Listed(Class::Constant, TYPED_RESULT),
     },
     Row {
         op: op::SPEC_CONSTANT_TRUE,
-        entry: Entry::Listed(TYPED_RESULT),
+        entry: Entry::Listed(Class::SpecConstant, TYPED_RESULT),
     },
     Row {
         op: op::SPEC_CONSTANT_FALSE,
-        entry: Entry::Listed(TYPED_RESULT),
+        entry: Entry::Listed(Class::SpecConstant, TYPED_RESULT),
     },
     Row {
         op: op::SPEC_CONSTANT,
-        entry: Entry::Listed(TYPED_RESULT_WORD),
+        entry: Entry::Listed(Class::SpecConstant, TYPED_RESULT_WORD),
     },
     Row {
         op: op::SPEC_CONSTANT_COMPOSITE,
-        entry: Entry::Listed(TYPED_RESULT_IDS),
+        entry: Entry::Listed(Class::SpecConstantResult, TYPED_RESULT_IDS),
     },
     Row {
         op: op::SPEC_CONSTANT_OP,
-        entry: Entry::Listed(TYPED_RESULT_WORD_IDS),
+        entry: Entry::Listed(Class::SpecConstantResult, TYPED_RESULT_WORD_IDS),
     },
     Row {
         op: op::FUNCTION,
-        entry: Entry::Listed(TYPED_RESULT_WORD_ID),
+        entry: Entry::Listed(Class::Function, TYPED_RESULT_WORD_ID),
     },
     Row {
         op: op::FUNCTION_END,
-        entry: Entry::Listed(NO_OPERANDS),
+        entry: Entry::Listed(Class::Function, NO_OPERANDS),
     },
     Row {
         op: op::VARIABLE,
-        entry: Entry::Listed(TYPED_RESULT_WORD),
+        entry: Entry::Listed(Class::Variable, TYPED_RESULT_WORD),
     },
     Row {
         op: op::LOAD,
-        entry: Entry::Listed(TYPED_RESULT_ID),
+        entry: Entry::Listed(Class::Memory, TYPED_RESULT_ID),
     },
     Row {
         op: op::STORE,
-        entry: Entry::Listed(ID_ID),
+        entry: Entry::Listed(Class::Memory, ID_ID),
     },
     Row {
         op: op::ACCESS_CHAIN,
-        entry: Entry::Listed(TYPED_RESULT_ID_ID_IDS),
+        entry: Entry::Listed(Class::Memory, TYPED_RESULT_ID_ID_IDS),
     },
     Row {
         op: op::DECORATE,
-        entry: Entry::Listed(ID_WORD_WORDS),
+        entry: Entry::Listed(Class::Setting, ID_WORD_WORDS),
     },
     Row {
         op: op::MEMBER_DECORATE,
-        entry: Entry::Listed(ID_WORD_WORD_WORDS),
+        entry: Entry::Listed(Class::Setting, ID_WORD_WORD_WORDS),
     },
     Row {
         op: op::VECTOR_SHUFFLE,
-        entry: Entry::Listed(TYPED_RESULT_ID_ID_WORDS),
+        entry: Entry::Listed(Class::Composite, TYPED_RESULT_ID_ID_WORDS),
     },
     Row {
         op: op::COMPOSITE_CONSTRUCT,
-        entry: Entry::Listed(TYPED_RESULT_IDS),
+        entry: Entry::Listed(Class::Composite, TYPED_RESULT_IDS),
     },
     Row {
         op: op::COMPOSITE_EXTRACT,
-        entry: Entry::Listed(TYPED_RESULT_ID_WORD_WORDS),
+        entry: Entry::Listed(Class::Composite, TYPED_RESULT_ID_WORD_WORDS),
     },
     Row {
         op: op::COMPOSITE_INSERT,
-        entry: Entry::Listed(TYPED_RESULT_ID_ID_WORD_WORDS),
+        entry: Entry::Listed(Class::Composite, TYPED_RESULT_ID_ID_WORD_WORDS),
     },
     Row {
         op: op::BITCAST,
-        entry: Entry::Listed(TYPED_RESULT_ID),
+        entry: Entry::Listed(Class::Scalar(ScalarClass::Bitcast), TYPED_RESULT_ID),
     },
     Row {
         op: op::S_NEGATE,
-        entry: Entry::Listed(TYPED_RESULT_ID),
+        entry: Entry::Listed(Class::Scalar(ScalarClass::WordFromWord), TYPED_RESULT_ID),
     },
     Row {
         op: op::I_ADD,
-        entry: Entry::Listed(TYPED_RESULT_ID_ID),
+        entry: Entry::Listed(
+            Class::Scalar(ScalarClass::WordFromWords),
+            TYPED_RESULT_ID_ID,
+        ),
     },
     Row {
         op: op::I_SUB,
-        entry: Entry::Listed(TYPED_RESULT_ID_ID),
+        entry: Entry::Listed(
+            Class::Scalar(ScalarClass::WordFromWords),
+            TYPED_RESULT_ID_ID,
+        ),
     },
     Row {
         op: op::I_MUL,
-        entry: Entry::Listed(TYPED_RESULT_ID_ID),
+        entry: Entry::Listed(
+            Class::Scalar(ScalarClass::WordFromWords),
+            TYPED_RESULT_ID_ID,
+        ),
     },
     Row {
         op: op::U_DIV,
-        entry: Entry::Listed(TYPED_RESULT_ID_ID),
+        entry: Entry::Listed(
+            Class::Scalar(ScalarClass::WordFromWords),
+            TYPED_RESULT_ID_ID,
+        ),
     },
     Row {
         op: op::S_DIV,
-        entry: Entry::Listed(TYPED_RESULT_ID_ID),
+        entry: Entry::Listed(
+            Class::Scalar(ScalarClass::WordFromWords),
+            TYPED_RESULT_ID_ID,
+        ),
     },
     Row {
         op: op::U_MOD,
-        entry: Entry::Listed(TYPED_RESULT_ID_ID),
+        entry: Entry::Listed(
+            Class::Scalar(ScalarClass::WordFromWords),
+            TYPED_RESULT_ID_ID,
+        ),
     },
     Row {
         op: op::S_REM,
-        entry: Entry::Listed(TYPED_RESULT_ID_ID),
+        entry: Entry::Listed(
+            Class::Scalar(ScalarClass::WordFromWords),
+            TYPED_RESULT_ID_ID,
+        ),
     },
     Row {
         op: op::S_MOD,
-        entry: Entry::Listed(TYPED_RESULT_ID_ID),
+        entry: Entry::Listed(
+            Class::Scalar(ScalarClass::WordFromWords),
+            TYPED_RESULT_ID_ID,
+        ),
     },
     Row {
         op: op::ANY,
-        entry: Entry::Listed(TYPED_RESULT_ID),
+        entry: Entry::Listed(Class::Composite, TYPED_RESULT_ID),
     },
     Row {
         op: op::ALL,
-        entry: Entry::Listed(TYPED_RESULT_ID),
+        entry: Entry::Listed(Class::Composite, TYPED_RESULT_ID),
     },
     Row {
         op: op::LOGICAL_EQUAL,
-        entry: Entry::Listed(TYPED_RESULT_ID_ID),
+        entry: Entry::Listed(
+            Class::Scalar(ScalarClass::TruthFromTruths),
+            TYPED_RESULT_ID_ID,
+        ),
     },
     Row {
         op: op::LOGICAL_NOT_EQUAL,
-        entry: Entry::Listed(TYPED_RESULT_ID_ID),
+        entry: Entry::Listed(
+            Class::Scalar(ScalarClass::TruthFromTruths),
+            TYPED_RESULT_ID_ID,
+        ),
     },
     Row {
         op: op::LOGICAL_OR,
-        entry: Entry::Listed(TYPED_RESULT_ID_ID),
+        entry: Entry::Listed(
+            Class::Scalar(ScalarClass::TruthFromTruths),
+            TYPED_RESULT_ID_ID,
+        ),
     },
     Row {
         op: op::LOGICAL_AND,
-        entry: Entry::Listed(TYPED_RESULT_ID_ID),
+        entry: Entry::Listed(
+            Class::Scalar(ScalarClass::TruthFromTruths),
+            TYPED_RESULT_ID_ID,
+        ),
     },
     Row {
         op: op::LOGICAL_NOT,
-        entry: Entry::Listed(TYPED_RESULT_ID),
+        entry: Entry::Listed(Class::Scalar(ScalarClass::TruthFromTruth), TYPED_RESULT_ID),
     },
     Row {
         op: op::SELECT,
-        entry: Entry::Listed(TYPED_RESULT_ID_ID_ID),
+        entry: Entry::Listed(Class::Scalar(ScalarClass::Select), TYPED_RESULT_ID_ID_ID),
     },
     Row {
         op: op::I_EQUAL,
-        entry: Entry::Listed(TYPED_RESULT_ID_ID),
+        entry: Entry::Listed(
+            Class::Scalar(ScalarClass::TruthFromWords),
+            TYPED_RESULT_ID_ID,
+        ),
     },
     Row {
         op: op::I_NOT_EQUAL,
-        entry: Entry::Listed(TYPED_RESULT_ID_ID),
+        entry: Entry::Listed(
+            Class::Scalar(ScalarClass::TruthFromWords),
+            TYPED_RESULT_ID_ID,
+        ),
     },
     Row {
         op: op::U_GREATER_THAN,
-        entry: Entry::Listed(TYPED_RESULT_ID_ID),
+        entry: Entry::Listed(
+            Class::Scalar(ScalarClass::TruthFromWords),
+            TYPED_RESULT_ID_ID,
+        ),
     },
     Row {
         op: op::S_GREATER_THAN,
-        entry: Entry::Listed(TYPED_RESULT_ID_ID),
+        entry: Entry::Listed(
+            Class::Scalar(ScalarClass::TruthFromWords),
+            TYPED_RESULT_ID_ID,
+        ),
     },
     Row {
         op: op::U_GREATER_THAN_EQUAL,
-        entry: Entry::Listed(TYPED_RESULT_ID_ID),
+        entry: Entry::Listed(
+            Class::Scalar(ScalarClass::TruthFromWords),
+            TYPED_RESULT_ID_ID,
+        ),
     },
     Row {
         op: op::S_GREATER_THAN_EQUAL,
-        entry: Entry::Listed(TYPED_RESULT_ID_ID),
+        entry: Entry::Listed(
+            Class::Scalar(ScalarClass::TruthFromWords),
+            TYPED_RESULT_ID_ID,
+        ),
     },
     Row {
         op: op::U_LESS_THAN,
-        entry: Entry::Listed(TYPED_RESULT_ID_ID),
+        entry: Entry::Listed(
+            Class::Scalar(ScalarClass::TruthFromWords),
+            TYPED_RESULT_ID_ID,
+        ),
     },
     Row {
         op: op::S_LESS_THAN,
-        entry: Entry::Listed(TYPED_RESULT_ID_ID),
+        entry: Entry::Listed(
+            Class::Scalar(ScalarClass::TruthFromWords),
+            TYPED_RESULT_ID_ID,
+        ),
     },
     Row {
         op: op::U_LESS_THAN_EQUAL,
-        entry: Entry::Listed(TYPED_RESULT_ID_ID),
+        entry: Entry::Listed(
+            Class::Scalar(ScalarClass::TruthFromWords),
+            TYPED_RESULT_ID_ID,
+        ),
     },
     Row {
         op: op::S_LESS_THAN_EQUAL,
-        entry: Entry::Listed(TYPED_RESULT_ID_ID),
+        entry: Entry::Listed(
+            Class::Scalar(ScalarClass::TruthFromWords),
+            TYPED_RESULT_ID_ID,
+        ),
     },
     Row {
         op: op::SHIFT_RIGHT_LOGICAL,
-        entry: Entry::Listed(TYPED_RESULT_ID_ID),
+        entry: Entry::Listed(
+            Class::Scalar(ScalarClass::WordFromWords),
+            TYPED_RESULT_ID_ID,
+        ),
     },
     Row {
         op: op::SHIFT_RIGHT_ARITHMETIC,
-        entry: Entry::Listed(TYPED_RESULT_ID_ID),
+        entry: Entry::Listed(
+            Class::Scalar(ScalarClass::WordFromWords),
+            TYPED_RESULT_ID_ID,
+        ),
     },
     Row {
         op: op::SHIFT_LEFT_LOGICAL,
-        entry: Entry::Listed(TYPED_RESULT_ID_ID),
+        entry: Entry::Listed(
+            Class::Scalar(ScalarClass::WordFromWords),
+            TYPED_RESULT_ID_ID,
+        ),
     },
     Row {
         op: op::BITWISE_OR,
-        entry: Entry::Listed(TYPED_RESULT_ID_ID),
+        entry: Entry::Listed(
+            Class::Scalar(ScalarClass::WordFromWords),
+            TYPED_RESULT_ID_ID,
+        ),
     },
     Row {
         op: op::BITWISE_XOR,
-        entry: Entry::Listed(TYPED_RESULT_ID_ID),
+        entry: Entry::Listed(
+            Class::Scalar(ScalarClass::WordFromWords),
+            TYPED_RESULT_ID_ID,
+        ),
     },
     Row {
         op: op::BITWISE_AND,
-        entry: Entry::Listed(TYPED_RESULT_ID_ID),
+        entry: Entry::Listed(
+            Class::Scalar(ScalarClass::WordFromWords),
+            TYPED_RESULT_ID_ID,
+        ),
     },
     Row {
         op: op::NOT,
-        entry: Entry::Listed(TYPED_RESULT_ID),
+        entry: Entry::Listed(Class::Scalar(ScalarClass::WordFromWord), TYPED_RESULT_ID),
     },
     Row {
         op: op::PHI,
-        entry: Entry::Listed(TYPED_RESULT_PAIRS),
+        entry: Entry::Listed(Class::Phi, TYPED_RESULT_PAIRS),
     },
     Row {
         op: op::LOOP_MERGE,
-        entry: Entry::Listed(ID_ID_WORD),
+        entry: Entry::Listed(Class::Merge, ID_ID_WORD),
     },
     Row {
         op: op::SELECTION_MERGE,
-        entry: Entry::Listed(ID_WORD),
+        entry: Entry::Listed(Class::Merge, ID_WORD),
     },
     Row {
         op: op::LABEL,
-        entry: Entry::Listed(RESULT),
+        entry: Entry::Listed(Class::Label, RESULT),
     },
     Row {
         op: op::BRANCH,
-        entry: Entry::Listed(ID),
+        entry: Entry::Listed(Class::Terminator, ID),
     },
     Row {
         op: op::BRANCH_CONDITIONAL,
-        entry: Entry::Listed(ID_ID_ID),
+        entry: Entry::Listed(Class::Terminator, ID_ID_ID),
     },
     Row {
         op: op::KILL,
-        entry: Entry::Listed(NO_OPERANDS),
+        entry: Entry::Listed(Class::Terminator, NO_OPERANDS),
     },
     Row {
         op: op::RETURN,
-        entry: Entry::Listed(NO_OPERANDS),
+        entry: Entry::Listed(Class::Terminator, NO_OPERANDS),
     },
     Row {
         op: op::UNREACHABLE,
-        entry: Entry::Listed(NO_OPERANDS),
+        entry: Entry::Listed(Class::Terminator, NO_OPERANDS),
     },
     Row {
         op: op::NO_LINE,

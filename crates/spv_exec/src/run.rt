@@ -8,7 +8,7 @@ ghost use Rattle.spv_exec.specs.Steps.{HoldsWords};
 use crate::Memory;
 use crate::block::run_block;
 use crate::values::defined_by;
-use spirv_model::{Inst, builtin, class, decoration, op};
+use spirv_model::{Inst, builtin, storage_class, decoration, op};
 use stage_model::{COMPONENTS, Ended, Kind, LOCATIONS};
 use std::alloc::Global;
 use std::collections::BTreeMap;
@@ -98,5 +98,5 @@ fn makes_output(inst: &Inst, id: u32) -> bool
     ensures { result ≡ stage.is_output_variable id inst.now }
 {
     inst.op == op::VARIABLE
-        && matches!(inst.words.as_slice(), [_, variable, class] if *variable == id && *class == class::OUTPUT)
+        && matches!(inst.words.as_slice(), [_, variable, class] if *variable == id && *class == storage_class::OUTPUT)
 }

@@ -11,6 +11,7 @@ use Rattle.spirv_model.specs.declared.op.TheConstants.{FUNCTION, FUNCTION_END}
 use Rattle.body_model.specs.declared.grammar.Scope.{Scope}
 use Rattle.body_model.specs.declared.grammar.TreeFault.{TreeFault}
 use Rattle.body_model.specs.declared.grammar.TreeFault.TheVariants.{BadBlock, BadMerge, BadExit, TooDeep, Memory}
+use Rattle.spirv_model.specs.Operands.{entry_of, class_of}
 use Rattle.body_model.specs.Blocks.{is_module_level}
 use Rattle.body_model.specs.Grammar.{Derives, IsOp, main}
 use Rattle.body_model.specs.TreeFaults.{due, walk, walk_module, closing, tree_fault}
@@ -25,6 +26,7 @@ use Rattle.spv_tree.proofs.Walks.{equal, unequal, sequence_passes}
 
 -- no OpFunction stands at the module's level
 pub tested : (op : ℕ) (is_function : Bool) → op == FUNCTION ≡ is_function → IsTrue (is_module_level op) → is_function ≡ false
+unfolding class_of entry_of
 tested op true is level = let e : false ≡ true = subst (λ (n : ℕ). IsTrue (is_module_level n)) (eqb-true op FUNCTION is) level in cc
 tested op false is level = refl
 

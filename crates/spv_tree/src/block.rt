@@ -5,38 +5,40 @@ ghost use Rattle.body_model.specs.Blocks as spec;
 
 use body_model::grammar::{BlockEnd, End, LoopExits, Scope, TreeFault};
 use limits::NESTING;
+use spirv_model::class::Class;
 use spirv_model::{Inst, op};
+use spv_words::class_of;
 
 pub fn is_module_level(op: u16) -> bool
     ensures { result ≡ spec.is_module_level op }
 {
-    op == op::UNDEF
-        || op == op::VARIABLE
-        || op == op::EXT_INST_IMPORT
-        || op::MEMORY_MODEL <= op && op <= op::CAPABILITY
-        || op::TYPE_VOID <= op && op <= op::SPEC_CONSTANT_OP
-        || op == op::DECORATE
-        || op == op::MEMBER_DECORATE
+    matches!(
+        class_of(op),
+        Some(
+            Class::Setting
+                | Class::TypeDeclaration
+                | Class::Constant
+                | Class::SpecConstant
+                | Class::SpecConstantResult
+                | Class::Undef
+                | Class::Variable
+        )
+    )
 }
 
 fn is_plain(op: u16) -> bool
     ensures { result ≡ spec.is_plain op }
 {
-    op == op::UNDEF
-        || op == op::LOAD
-        || op == op::STORE
-        || op == op::ACCESS_CHAIN
-        || op::VECTOR_SHUFFLE <= op && op <= op::NOT
+    matches!(
+        class_of(op),
+        Some(Class::Undef | Class::Memory | Class::Composite | Class::Scalar(_))
+    )
 }
 
 fn is_terminator(op: u16) -> bool
     ensures { result ≡ spec.is_terminator op }
 {
-    op == op::BRANCH
-        || op == op::BRANCH_CONDITIONAL
-        || op == op::KILL
-        || op == op::RETURN
-        || op == op::UNREACHABLE
+    matches!(class_of(op), Some(Class::Terminator))
 }
 
 /// Whether these instructions of a block lead to OpLoopMerge.

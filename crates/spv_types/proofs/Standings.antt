@@ -6,7 +6,7 @@ use Rattle.std.proofs.lemmas.List.{get_or_default}
 use Rattle.std.proofs.lemmas.List.Folds.{list_any_more}
 use Rattle.spirv_model.specs.declared.module.Inst.{Inst}
 use Rattle.spirv_model.specs.declared.op.TheConstants.{NOP}
-use Rattle.spirv_model.specs.declared.class.TheConstants.{PUSH_CONSTANT}
+use Rattle.spirv_model.specs.declared.storage_class.TheConstants.{PUSH_CONSTANT}
 use Rattle.valid_model.specs.Knowledge.{meaning_in}
 use Rattle.valid_model.specs.DecorationWords.{decorates, places_member}
 use Rattle.valid_model.specs.Decorations.{breaks_decorations, bad_decoration}

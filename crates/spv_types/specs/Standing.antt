@@ -2,7 +2,7 @@
 use Rattle.std.specs.Prelude.{◌≡◌, ℕ, ◌||◌, List}
 use Rattle.std.specs.List.{list_any}
 use Rattle.spirv_model.specs.declared.module.Inst.{Inst}
-use Rattle.spirv_model.specs.declared.class.TheConstants.{PUSH_CONSTANT}
+use Rattle.spirv_model.specs.declared.storage_class.TheConstants.{PUSH_CONSTANT}
 use Rattle.valid_model.specs.DecorationWords.{decorates, places_member}
 use Rattle.valid_model.specs.EarlierFacts.{EarlierFacts, has_spec_id, has_slot, is_variable_of, is_position_variable}
 use Rattle.valid_model.specs.ModuleFacts.{ModuleFacts}

@@ -7,7 +7,7 @@ ghost use Rattle.spv_types.specs.FactsIn.{facts_in};
 
 use crate::module_facts::{ModuleTables, is_vertex};
 use crate::shapes::{holds_bool, holds_integer, holds_position};
-use spirv_model::{builtin, class};
+use spirv_model::{builtin, storage_class};
 use valid_model::{Known, Meaning};
 
 fn is_built_in(whole: &ModuleTables, number: u32, class: u32, ty: u32) -> bool
@@ -16,11 +16,13 @@ fn is_built_in(whole: &ModuleTables, number: u32, class: u32, ty: u32) -> bool
     let vertex = is_vertex(whole);
     match number {
         builtin::VERTEX_INDEX | builtin::INSTANCE_INDEX => {
-            vertex && class == class::INPUT && holds_integer(whole, ty)
+            vertex && class == storage_class::INPUT && holds_integer(whole, ty)
         }
-        builtin::POSITION => vertex && class == class::OUTPUT && holds_position(whole, ty),
-        builtin::FRAG_COORD => !vertex && class == class::INPUT && holds_position(whole, ty),
-        builtin::FRONT_FACING => !vertex && class == class::INPUT && holds_bool(whole, ty),
+        builtin::POSITION => vertex && class == storage_class::OUTPUT && holds_position(whole, ty),
+        builtin::FRAG_COORD => !vertex
+            && class == storage_class::INPUT
+            && holds_position(whole, ty),
+        builtin::FRONT_FACING => !vertex && class == storage_class::INPUT && holds_bool(whole, ty),
         _ => false,
     }
 }

@@ -5,7 +5,7 @@ ghost use Rattle.std.specs.BTreeSet.{contains};
 ghost use Rattle.valid_model.specs.DecorationWords as decoration_words;
 ghost use Rattle.valid_model.specs.EarlierFacts as spec;
 ghost use Rattle.valid_model.specs.ModuleFacts.{ModuleFacts};
-ghost use Rattle.spirv_model.specs.declared.class.TheConstants as class;
+ghost use Rattle.spirv_model.specs.declared.storage_class.TheConstants as storage_class;
 ghost use Rattle.spv_types.specs.FactsIn.{facts_in, before_in};
 ghost use Rattle.spv_types.specs.Pairs.{has_pair};
 ghost use Rattle.spv_types.specs.Standing.{Adds, StandsFor};
@@ -13,7 +13,7 @@ ghost use Rattle.spv_types.specs.Standing.{Adds, StandsFor};
 use crate::decoration_words::is_listed;
 use crate::module_facts::{ModuleTables, decoration_of, has_position};
 use crate::pairs::{PairSet, add_pair};
-use spirv_model::{Inst, class, decoration, op};
+use spirv_model::{Inst, decoration, op, storage_class};
 use std::alloc::{AllocError, Global};
 use std::collections::BTreeSet;
 
@@ -98,7 +98,7 @@ fn add_slot(slots: &mut PairSet, whole: &ModuleTables, inst: &Inst) -> Result<()
         ≡ (has_pair slots.old set binding || spec.has_slot (facts_in whole.now) set binding inst.now)) }
 {
     let words = inst.words.as_slice();
-    if inst.op != op::VARIABLE || inst.word(2) != class::UNIFORM {
+    if inst.op != op::VARIABLE || inst.word(2) != storage_class::UNIFORM {
         return Ok(());
     }
     let id = inst.word(1);
@@ -112,9 +112,9 @@ fn add_slot(slots: &mut PairSet, whole: &ModuleTables, inst: &Inst) -> Result<()
 }
 
 fn is_push(inst: &Inst) -> bool
-    ensures { result ≡ spec.is_variable_of class.PUSH_CONSTANT inst.now }
+    ensures { result ≡ spec.is_variable_of storage_class.PUSH_CONSTANT inst.now }
 {
-    inst.op == op::VARIABLE && inst.word(2) == class::PUSH_CONSTANT
+    inst.op == op::VARIABLE && inst.word(2) == storage_class::PUSH_CONSTANT
 }
 
 fn is_position(whole: &ModuleTables, inst: &Inst) -> bool

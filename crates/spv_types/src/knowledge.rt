@@ -3,7 +3,7 @@ ghost use Rattle.std.specs.Prelude.{◌≡◌};
 ghost use Rattle.valid_model.specs.Knowledge as spec;
 ghost use Rattle.spv_types.specs.Tables.{in_table};
 
-use spirv_model::class;
+use spirv_model::storage_class;
 use std::collections::BTreeMap;
 use valid_model::{Known, Meaning, Shape};
 
@@ -83,12 +83,12 @@ pub fn length(table: &Table, id: u32) -> u32
 pub fn is_storage_class(class: u32) -> bool
     ensures { result ≡ spec.is_storage_class class }
 {
-    class == class::INPUT
-        || class == class::UNIFORM
-        || class == class::OUTPUT
-        || class == class::PRIVATE
-        || class == class::FUNCTION
-        || class == class::PUSH_CONSTANT
+    class == storage_class::INPUT
+        || class == storage_class::UNIFORM
+        || class == storage_class::OUTPUT
+        || class == storage_class::PRIVATE
+        || class == storage_class::FUNCTION
+        || class == storage_class::PUSH_CONSTANT
 }
 
 pub fn a_type(shape: Shape, size: u32) -> Known

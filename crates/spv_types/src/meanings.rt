@@ -5,14 +5,19 @@ ghost use Rattle.spv_types.specs.Tables.{in_table};
 
 use crate::knowledge::{Table, is_storage_class, means};
 use crate::types::{array_length, is_type, type_of};
+use spirv_model::class::Class;
 use spirv_model::{Inst, op};
+use spv_words::class_of;
 use std::alloc::{AllocError, Global};
 use valid_model::{Known, Meaning};
 
 pub fn is_constant(opcode: u16) -> bool
     ensures { result ≡ spec.is_constant opcode }
 {
-    opcode >= op::CONSTANT_TRUE && opcode <= op::SPEC_CONSTANT_OP
+    matches!(
+        class_of(opcode),
+        Some(Class::Constant | Class::SpecConstant | Class::SpecConstantResult)
+    )
 }
 
 fn constant_known(table: &Table, opcode: u16, ty: u32, word: u32) -> Known

@@ -1,11 +1,14 @@
 //! What a whole module says, as far as the rules of decorations ask.
 ghost use Rattle.std.specs.Prelude.{◌≡◌};
+ghost use Rattle.spirv_model.specs.Operands.{class_of};
 ghost use Rattle.valid_model.specs.ModuleFacts as spec;
 ghost use Rattle.spv_types.specs.FactsIn.{facts_in};
 
 use crate::decoration_words::Decorations;
 use crate::knowledge::Table;
+use spirv_model::class::Class;
 use spirv_model::{Inst, builtin, decoration, execution_model, op};
+use spv_words::class_of;
 use std::collections::BTreeMap;
 
 /// The tables of a module's ids, and its first entry point's execution model.
@@ -51,13 +54,10 @@ fn opcode_at(insts: &[Inst], place: usize) -> u16
     }
 }
 
-fn is_spec_op(opcode: Option<u16>) -> bool
-    ensures { result ≡ spec.is_spec_op opcode }
+fn is_spec_op(opcode: u16) -> bool
+    ensures { result ≡ spec.is_spec_class (class_of opcode) }
 {
-    matches!(
-        opcode,
-        Some(op::SPEC_CONSTANT | op::SPEC_CONSTANT_TRUE | op::SPEC_CONSTANT_FALSE)
-    )
+    matches!(class_of(opcode), Some(Class::SpecConstant))
 }
 
 /// Whether the id is a specialization constant of its own.
@@ -65,7 +65,7 @@ pub fn is_spec_constant(whole: &ModuleTables, id: u32) -> bool
     ensures { result ≡ spec.is_spec_op ((facts_in whole.now).opcode id) }
 {
     match whole.places.get(&id) {
-        Some(place) => is_spec_op(Some(opcode_at(whole.insts, *place as usize))),
+        Some(place) => is_spec_op(opcode_at(whole.insts, *place as usize)),
         None => false,
     }
 }

@@ -5,64 +5,42 @@ ghost use Rattle.valid_model.specs.Operations as spec;
 ghost use Rattle.spv_types.specs.Tables.{in_table};
 
 use crate::knowledge::{Table, is_bool, is_constant_of, is_integer, is_truth, is_word};
-use spirv_model::op;
+use spirv_model::class::{Class, ScalarClass};
+use spv_words::class_of_operand;
 
-fn is_word_from_word(opcode: u32) -> bool
-    ensures { result ≡ spec.is_word_from_word opcode }
+fn unary_fits(table: &Table, ty: u32, class: Option<Class>, a: u32) -> bool
+    ensures { result ≡ spec.unary_fits class (knowledge.meaning_in (in_table table.now ty)) (knowledge.constant_type (in_table table.now) a) }
 {
-    opcode == u32::from(op::S_NEGATE) || opcode == u32::from(op::NOT)
-}
-
-fn is_arithmetic(opcode: u32) -> bool
-    ensures { result ≡ spec.is_arithmetic opcode }
-{
-    opcode == u32::from(op::I_ADD)
-        || opcode == u32::from(op::I_SUB)
-        || opcode == u32::from(op::I_MUL)
-        || opcode == u32::from(op::U_DIV)
-        || opcode == u32::from(op::S_DIV)
-        || opcode == u32::from(op::U_MOD)
-        || opcode == u32::from(op::S_REM)
-        || opcode == u32::from(op::S_MOD)
-}
-
-fn is_bitwise(opcode: u32) -> bool
-    ensures { result ≡ spec.is_bitwise opcode }
-{
-    opcode >= u32::from(op::SHIFT_RIGHT_LOGICAL) && opcode <= u32::from(op::BITWISE_AND)
-}
-
-fn is_comparison(opcode: u32) -> bool
-    ensures { result ≡ spec.is_comparison opcode }
-{
-    opcode >= u32::from(op::I_EQUAL) && opcode <= u32::from(op::S_LESS_THAN_EQUAL)
-}
-
-fn is_logical(opcode: u32) -> bool
-    ensures { result ≡ spec.is_logical opcode }
-{
-    opcode >= u32::from(op::LOGICAL_EQUAL) && opcode <= u32::from(op::LOGICAL_AND)
-}
-
-fn unary_fits(table: &Table, ty: u32, opcode: u32, a: u32) -> bool
-    ensures { result ≡ spec.unary_fits opcode (knowledge.meaning_in (in_table table.now ty)) (knowledge.constant_type (in_table table.now) a) }
-{
-    if is_word_from_word(opcode) {
-        return is_integer(table, ty) && is_word(table, a);
+    match class {
+        Some(Class::Scalar(ScalarClass::WordFromWord)) => is_integer(table, ty)
+            && is_word(table, a),
+        Some(Class::Scalar(ScalarClass::TruthFromTruth)) => is_bool(table, ty)
+            && is_truth(table, a),
+        _ => false,
     }
-    opcode == u32::from(op::LOGICAL_NOT) && is_bool(table, ty) && is_truth(table, a)
 }
 
-fn binary_fits(table: &Table, ty: u32, opcode: u32, a: u32, b: u32) -> bool
-    ensures { result ≡ spec.binary_fits opcode (knowledge.meaning_in (in_table table.now ty)) (knowledge.constant_type (in_table table.now) a) (knowledge.constant_type (in_table table.now) b) }
+fn binary_fits(table: &Table, ty: u32, class: Option<Class>, a: u32, b: u32) -> bool
+    ensures { result ≡ spec.binary_fits class (knowledge.meaning_in (in_table table.now ty)) (knowledge.constant_type (in_table table.now) a) (knowledge.constant_type (in_table table.now) b) }
 {
-    if is_arithmetic(opcode) || is_bitwise(opcode) {
-        return is_integer(table, ty) && is_word(table, a) && is_word(table, b);
+    match class {
+        Some(Class::Scalar(ScalarClass::WordFromWords)) => {
+            is_integer(table, ty) && is_word(table, a) && is_word(table, b)
+        }
+        Some(Class::Scalar(ScalarClass::TruthFromWords)) => {
+            is_bool(table, ty) && is_word(table, a) && is_word(table, b)
+        }
+        Some(Class::Scalar(ScalarClass::TruthFromTruths)) => {
+            is_bool(table, ty) && is_truth(table, a) && is_truth(table, b)
+        }
+        _ => false,
     }
-    if is_comparison(opcode) {
-        return is_bool(table, ty) && is_word(table, a) && is_word(table, b);
-    }
-    is_logical(opcode) && is_bool(table, ty) && is_truth(table, a) && is_truth(table, b)
+}
+
+fn is_select(class: Option<Class>) -> bool
+    ensures { result ≡ spec.is_select class }
+{
+    matches!(class, Some(Class::Scalar(ScalarClass::Select)))
 }
 
 fn select_fits(table: &Table, ty: u32, condition: u32, a: u32, b: u32) -> bool
@@ -77,12 +55,11 @@ fn select_fits(table: &Table, ty: u32, condition: u32, a: u32, b: u32) -> bool
 pub fn operation_fits(table: &Table, ty: u32, opcode: u32, operands: &[u32]) -> bool
     ensures { result ≡ spec.operation_fits (in_table table.now) ty opcode operands.now }
 {
+    let class = class_of_operand(opcode);
     match operands {
-        [a] => unary_fits(table, ty, opcode, *a),
-        [a, b] => binary_fits(table, ty, opcode, *a, *b),
-        [condition, a, b] => {
-            opcode == u32::from(op::SELECT) && select_fits(table, ty, *condition, *a, *b)
-        }
+        [a] => unary_fits(table, ty, class, *a),
+        [a, b] => binary_fits(table, ty, class, *a, *b),
+        [condition, a, b] => is_select(class) && select_fits(table, ty, *condition, *a, *b),
         _ => false,
     }
 }

@@ -7,16 +7,17 @@ ghost use Rattle.spv_types.specs.Tables.{in_table, HasPlaces};
 use crate::definitions::{Places, inst_at};
 use crate::knowledge::{Table, a_type, is_data, is_storage_class, is_void, length, size};
 use limits::TYPE_WORDS;
+use spirv_model::class::Class;
 use spirv_model::table::{Entry, Operand};
 use spirv_model::{Inst, Items, op};
-use spv_words::entry_of;
+use spv_words::{class_of, entry_of};
 use std::alloc::{AllocError, Global};
 use valid_model::{Known, Meaning, Members, Shape};
 
 pub fn is_type(opcode: u16) -> bool
     ensures { result ≡ spec.is_type opcode }
 {
-    opcode >= op::TYPE_VOID && opcode <= op::TYPE_FUNCTION
+    matches!(class_of(opcode), Some(Class::TypeDeclaration))
 }
 
 fn integer_type(width: u32, signedness: u32) -> Option<Known>
@@ -207,7 +208,7 @@ pub fn breaks_types(alloc: Global, table: &Table, inst: &Inst) -> Result<bool, A
 fn result_type(inst: &Inst) -> Option<u32>
     ensures { result ≡ spec.result_type inst.now }
 {
-    let Some(Entry::Listed(operands)) = entry_of(inst.op) else {
+    let Some(Entry::Listed(_, operands)) = entry_of(inst.op) else {
         return None;
     };
     match operands.listed.0 {

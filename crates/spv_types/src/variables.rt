@@ -7,12 +7,12 @@ use crate::blocks::points_to_block;
 use crate::earlier_facts::EarlierTables;
 use crate::module_facts::{ModuleTables, decoration_of, has_position, is_decorated};
 use crate::shapes::holds_integers;
-use spirv_model::{class, decoration};
+use spirv_model::{decoration, storage_class};
 
 fn bad_interface(whole: &ModuleTables, id: u32, class: u32) -> bool
     ensures { result ≡ spec.bad_interface (facts_in whole.now) id class }
 {
-    (class == class::INPUT || class == class::OUTPUT)
+    (class == storage_class::INPUT || class == storage_class::OUTPUT)
         && is_decorated(whole, id, decoration::LOCATION)
             == is_decorated(whole, id, decoration::BUILT_IN)
 }
@@ -37,13 +37,13 @@ fn bad_uniform(whole: &ModuleTables, seen: &EarlierTables, ty: u32, id: u32, cla
 {
     let set = decoration_of(whole, id, decoration::DESCRIPTOR_SET);
     let binding = decoration_of(whole, id, decoration::BINDING);
-    class == class::UNIFORM && (bad_slot(seen, set, binding) || !points_to_block(whole, ty))
+    class == storage_class::UNIFORM && (bad_slot(seen, set, binding) || !points_to_block(whole, ty))
 }
 
 fn bad_push(whole: &ModuleTables, seen: &EarlierTables, ty: u32, class: u32) -> bool
     ensures { result ≡ spec.bad_push (facts_in whole.now) (before_in seen.now) ty class }
 {
-    class == class::PUSH_CONSTANT && (seen.push || !points_to_block(whole, ty))
+    class == storage_class::PUSH_CONSTANT && (seen.push || !points_to_block(whole, ty))
 }
 
 fn second_position(whole: &ModuleTables, seen: &EarlierTables, id: u32) -> bool

@@ -5,6 +5,7 @@ use Rattle.std.specs.Option.{option_map}
 use Rattle.spirv_model.specs.declared.table.Operand.{Operand}
 use Rattle.spirv_model.specs.declared.table.Operand.TheVariants.{IdRef, LiteralInteger}
 use Rattle.spirv_model.specs.declared.module.Inst.{Inst}
+use Rattle.spirv_model.specs.declared.class.Class.{Class}
 use Rattle.spirv_model.specs.declared.table.Operands.{Operands}
 use Rattle.spirv_model.specs.declared.table.Entry.TheVariants.{Listed}
 use Rattle.spirv_model.specs.declared.table.Rest.{Rest}
@@ -93,8 +94,8 @@ pub fitting-ids : (listed : List (Option Operand)) (rest : Rest) (words : List �
 fitting-ids listed rest words b is h = fitting (kinds_from listed rest words) words (ids_left listed rest words) (listed-ids listed rest words) (sym is ∙ h)
 
 -- by the table
-pub ids-listed : (inst : Inst) (operands : Operands) (words : List ℕ) → entry_of inst.op ≡ Some (Listed operands) → words ≡ inst.words
+pub ids-listed : (inst : Inst) (class : Class) (operands : Operands) (words : List ℕ) → entry_of inst.op ≡ Some (Listed class operands) → words ≡ inst.words
     → ids_by (kinds_from (listed_of operands) operands.rest words) words ≡ ids inst
 unfolding ids kinds
-ids-listed inst operands words is words_is =
+ids-listed inst class operands words is words_is =
     ap (λ ws. ids_by (kinds_from (listed_of operands) operands.rest ws) ws) words_is ∙ ap (λ e. ids_by (kinds_in e inst.words) inst.words) (sym is)

@@ -5,6 +5,7 @@ use Rattle.std.specs.Ordering.{nat_cmp, ordering_index}
 use Rattle.std.proofs.lemmas.Cmp.{ranked}
 use Rattle.std.proofs.lemmas.List.Sorted.{IsNonDecreasingBy-from_default}
 use Rattle.std.proofs.lemmas.Bool.Decides.{nat_tests}
+use Rattle.basics.proofs.Bools.{second_of_both}
 use Rattle.spirv_model.specs.declared.table.Row.{Row}
 use Rattle.spirv_model.specs.declared.table.Entry.TheVariants.{Skipped}
 use Rattle.spirv_model.specs.Operands.{entry_in}
@@ -17,20 +18,16 @@ no_row = record { op = 0; entry = Skipped }
 abbrev pub op_at : List Row → ℕ → ℕ
 op_at rows i = (get_or rows i no_row).op
 
-second : (a b : Bool) → (a && b) ≡ true → b ≡ true
-second true b h = h
-second false b h = cc
-
 at_least : (least : ℕ) (rows : List Row) → rise_from least rows ≡ true → (j : ℕ) → j < length rows → least ≤ op_at rows j
 at_least least [] h j in_range = absurd (omega arith)
 at_least least (row ∷ rows) h zero in_range = grind (arith, nat_tests)
-at_least least (row ∷ rows) h (suc j) in_range = grind (arith, nat_tests, at_least (row.op + 1) rows (second (nat_le least row.op) _ h) j (omega arith))
+at_least least (row ∷ rows) h (suc j) in_range = grind (arith, nat_tests, at_least (row.op + 1) rows (second_of_both (nat_le least row.op) _ h) j (omega arith))
 
 rising : (least : ℕ) (rows : List Row) → rise_from least rows ≡ true → (i j : ℕ) → i < j → j < length rows → op_at rows i < op_at rows j
 rising least [] h i j lt in_range = absurd (omega arith)
 rising least (row ∷ rows) h i zero lt in_range = absurd (omega arith)
-rising least (row ∷ rows) h zero (suc j) lt in_range = grind (arith, nat_tests, at_least (row.op + 1) rows (second (nat_le least row.op) _ h) j (omega arith))
-rising least (row ∷ rows) h (suc i) (suc j) lt in_range = grind (arith, nat_tests, rising (row.op + 1) rows (second (nat_le least row.op) _ h) i j (omega arith) (omega arith))
+rising least (row ∷ rows) h zero (suc j) lt in_range = grind (arith, nat_tests, at_least (row.op + 1) rows (second_of_both (nat_le least row.op) _ h) j (omega arith))
+rising least (row ∷ rows) h (suc i) (suc j) lt in_range = grind (arith, nat_tests, rising (row.op + 1) rows (second_of_both (nat_le least row.op) _ h) i j (omega arith) (omega arith))
 
 entry-absent : (rows : List Row) (op : ℕ) → ((j : ℕ) → j < length rows → op_at rows j ≢ op) → entry_in rows op ≡ None
 entry-absent [] op other = refl

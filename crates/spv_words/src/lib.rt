@@ -12,7 +12,7 @@ pub use read::read_module;
 pub use spirv_model::table::{Entry, Operands};
 pub use spirv_model::{Inst, Items, Words, WordsFault};
 pub use std::alloc::AllocError as Memory;
-pub use table::entry_of;
+pub use table::{class_of, class_of_operand, entry_of};
 pub use write::write_module;
 
 #[cfg(test)]

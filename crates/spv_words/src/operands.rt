@@ -13,7 +13,7 @@ use std::marker::Model;
 pub fn result(inst: &Inst) -> Option<u32>
     ensures { result ≡ spec.result inst.now }
 {
-    let Some(Entry::Listed(operands)) = entry_of(inst.op) else {
+    let Some(Entry::Listed(_, operands)) = entry_of(inst.op) else {
         return None;
     };
     let place = result_place(operands)?;
@@ -78,7 +78,7 @@ pub fn ids(inst: &Inst) -> OperandIds<'_>
 {
     let words = inst.words.as_slice();
     match entry_of(inst.op) {
-        Some(Entry::Listed(operands)) => ids_of(operands, words),
+        Some(Entry::Listed(_, operands)) => ids_of(operands, words),
         _ => OperandIds {
             operands: NO_OPERANDS,
             words: &[],

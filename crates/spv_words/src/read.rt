@@ -85,7 +85,7 @@ fn is_listed(op: u16, words: &[u32], place: u32) -> Result<bool, WordsFault>
         None => Err(WordsFault::UnknownOp(op)),
         Some(Entry::Skipped) => Ok(false),
         Some(Entry::Float) => Err(WordsFault::FloatType),
-        Some(Entry::Listed(operands)) => {
+        Some(Entry::Listed(_, operands)) => {
             if !fit(operands, words) {
                 return Err(WordsFault::BadShape(place));
             }

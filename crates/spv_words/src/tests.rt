@@ -227,7 +227,7 @@ fn ids_lie_below_the_bound(rt: HostRuntime) -> Result<(), Fail> {
 fn opcodes_are_found(rt: HostRuntime) {
     assert!(rt; matches!(entry_of(op::NOP), Some(Entry::Skipped)));
     assert!(rt; matches!(entry_of(op::TYPE_FLOAT), Some(Entry::Float)));
-    assert!(rt; matches!(entry_of(op::UNREACHABLE), Some(Entry::Listed(_))));
+    assert!(rt; matches!(entry_of(op::UNREACHABLE), Some(Entry::Listed(_, _))));
     assert!(rt; matches!(entry_of(op::MODULE_PROCESSED), Some(Entry::Skipped)));
     assert!(rt; entry_of(9).is_none());
     assert!(rt; entry_of(331).is_none());

@@ -4,7 +4,7 @@ use Rattle.std.specs.List.{list_any, find, filter_map, range_with_len}
 use Rattle.std.specs.Option.{option_map, option_and_then}
 use Rattle.spirv_model.specs.declared.module.Inst.{Inst}
 use Rattle.spirv_model.specs.declared.op.TheConstants.{DECORATE, VARIABLE}
-use Rattle.spirv_model.specs.declared.class.TheConstants.{OUTPUT}
+use Rattle.spirv_model.specs.declared.storage_class.TheConstants.{OUTPUT}
 use Rattle.spirv_model.specs.declared.decoration.TheConstants.{BUILT_IN, LOCATION}
 use Rattle.spirv_model.specs.declared.builtin.TheConstants.{POSITION}
 use Rattle.stage_model.specs.declared.outcome.Kind.{Kind}

@@ -2,10 +2,10 @@
 use Rattle.std.proofs.Common.{◌≡◌, ℕ, true, false, List, [], ◌∷◌, ◌++◌, map, refl}
 use Rattle.spirv_model.specs.declared.module.Inst.{Inst}
 use Rattle.spirv_model.specs.declared.op.TheConstants as op
-use Rattle.spirv_model.specs.declared.class.TheConstants as class
+use Rattle.spirv_model.specs.declared.storage_class.TheConstants as storage_class
 use Rattle.spirv_model.specs.declared.builtin.TheConstants as builtin
 use Rattle.spirv_model.specs.declared.decoration.TheConstants as decoration
-use Rattle.spirv_model.specs.Operands.{entry_of, result}
+use Rattle.spirv_model.specs.Operands.{entry_of, class_of, result}
 use Rattle.valid_model.specs.Definitions.{definition}
 use Rattle.valid_model.specs.Meanings.{known_of, known_after, known_by}
 use Rattle.valid_model.specs.Types.{type_of}
@@ -22,7 +22,7 @@ inst opcode words = record { op = opcode; words = words }
 abbrev types : List Inst
 types =
     inst op.TYPE_INT (1 ∷ 32 ∷ 1 ∷ []) ∷ inst op.TYPE_VECTOR (2 ∷ 1 ∷ 4 ∷ [])
-    ∷ inst op.TYPE_POINTER (3 ∷ class.INPUT ∷ 1 ∷ []) ∷ inst op.TYPE_POINTER (4 ∷ class.OUTPUT ∷ 2 ∷ []) ∷ []
+    ∷ inst op.TYPE_POINTER (3 ∷ storage_class.INPUT ∷ 1 ∷ []) ∷ inst op.TYPE_POINTER (4 ∷ storage_class.OUTPUT ∷ 2 ∷ []) ∷ []
 
 abbrev decorate : ℕ → ℕ → ℕ → Inst
 decorate id decoration word = inst op.DECORATE (id ∷ decoration ∷ word ∷ [])
@@ -37,11 +37,11 @@ vertex = inst op.ENTRY_POINT (0 ∷ 9 ∷ 0 ∷ [])
 abbrev interface : List Inst
 interface =
     vertex ∷ decorate 5 decoration.BUILT_IN builtin.POSITION ∷ decorate 6 decoration.LOCATION 7
-    ∷ (types ++ variable 4 5 class.OUTPUT ∷ variable 3 6 class.INPUT ∷ variable 3 7 class.INPUT ∷ [])
+    ∷ (types ++ variable 4 5 storage_class.OUTPUT ∷ variable 3 6 storage_class.INPUT ∷ variable 3 7 storage_class.INPUT ∷ [])
 
 pub interface-faults : map (bad_decoration interface) (0 ∷ 1 ∷ 2 ∷ 3 ∷ 7 ∷ 8 ∷ 9 ∷ 10 ∷ [])
     ≡ false ∷ false ∷ false ∷ false ∷ false ∷ false ∷ true ∷ false ∷ []
-unfolding entry_of result definition type_of known_of known_after known_by decoration_of offset_of opcode_of model_of facts_of before_of bad_decorate bad_member_decorate bad_variable breaks_decorations bad_decoration
+unfolding entry_of class_of result definition type_of known_of known_after known_by decoration_of offset_of opcode_of model_of facts_of before_of bad_decorate bad_member_decorate bad_variable breaks_decorations bad_decoration
 interface-faults = refl
 
 -- a structure of two integers at 0 and 4 in set 1 at binding 2, and the same slot again
@@ -51,10 +51,10 @@ block =
     ∷ inst op.MEMBER_DECORATE (2 ∷ 1 ∷ decoration.OFFSET ∷ 4 ∷ [])
     ∷ decorate 4 decoration.DESCRIPTOR_SET 1 ∷ decorate 4 decoration.BINDING 2 ∷ decorate 5 decoration.DESCRIPTOR_SET 1
     ∷ decorate 5 decoration.BINDING 2 ∷ decorate 1 decoration.SPEC_ID 0 ∷ decorate 2 decoration.BLOCK 0
-    ∷ inst op.TYPE_INT (1 ∷ 32 ∷ 1 ∷ []) ∷ inst op.TYPE_STRUCT (2 ∷ 1 ∷ 1 ∷ []) ∷ inst op.TYPE_POINTER (3 ∷ class.UNIFORM ∷ 2 ∷ [])
-    ∷ variable 3 4 class.UNIFORM ∷ variable 3 5 class.UNIFORM ∷ []
+    ∷ inst op.TYPE_INT (1 ∷ 32 ∷ 1 ∷ []) ∷ inst op.TYPE_STRUCT (2 ∷ 1 ∷ 1 ∷ []) ∷ inst op.TYPE_POINTER (3 ∷ storage_class.UNIFORM ∷ 2 ∷ [])
+    ∷ variable 3 4 storage_class.UNIFORM ∷ variable 3 5 storage_class.UNIFORM ∷ []
 
 pub block-faults : map (bad_decoration block) (0 ∷ 1 ∷ 2 ∷ 3 ∷ 6 ∷ 7 ∷ 8 ∷ 12 ∷ 13 ∷ [])
     ≡ false ∷ false ∷ false ∷ false ∷ false ∷ true ∷ true ∷ false ∷ true ∷ []
-unfolding entry_of result definition type_of known_of known_after known_by decoration_of offset_of opcode_of model_of facts_of before_of bad_decorate bad_member_decorate bad_variable breaks_decorations bad_decoration
+unfolding entry_of class_of result definition type_of known_of known_after known_by decoration_of offset_of opcode_of model_of facts_of before_of bad_decorate bad_member_decorate bad_variable breaks_decorations bad_decoration
 block-faults = refl

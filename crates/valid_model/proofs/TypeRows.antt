@@ -8,7 +8,7 @@ use Rattle.valid_model.specs.declared.meaning.Meaning.TheVariants as means
 use Rattle.valid_model.specs.declared.type_fault.TypeFault.TheVariants.{IdTwice, IdOutOfBound, BadType, BadConstant}
 use Rattle.spirv_model.specs.declared.op.TheConstants as op
 use Rattle.spirv_model.specs.Module.{cut}
-use Rattle.spirv_model.specs.Operands.{entry_of, kinds, ids, result}
+use Rattle.spirv_model.specs.Operands.{entry_of, class_of, kinds, ids, result}
 use Rattle.valid_model.specs.Definitions.{definition, id_twice, id_out_of_bound}
 use Rattle.valid_model.specs.Meanings.{known_of, known_after, known_by, meaning}
 use Rattle.valid_model.specs.Types.{type_of, result_type, has_later_type, breaks_types}
@@ -39,11 +39,11 @@ pub point-meanings : map (meaning point_insts) (0 ∷ 1 ∷ 2 ∷ 3 ∷ 4 ∷ 5 
     ∷ means.Other
     ∷ means.Label
     ∷ []
-unfolding entry_of kinds ids result definition type_of known_of known_after known_by
+unfolding entry_of class_of kinds ids result definition type_of known_of known_after known_by
 point-meanings = refl
 
 pub point-sound : type_fault (record { bound = 12; insts = point_insts }) ≡ None
-unfolding entry_of kinds ids result definition type_of known_of known_after known_by id_twice id_out_of_bound result_type has_later_type breaks_types bad_type constant_fits bad_constant rule_fault type_fault decoration_of model_of facts_of before_of bad_decorate bad_variable breaks_decorations bad_decoration
+unfolding entry_of class_of kinds ids result definition type_of known_of known_after known_by id_twice id_out_of_bound result_type has_later_type breaks_types bad_type constant_fits bad_constant rule_fault type_fault decoration_of model_of facts_of before_of bad_decorate bad_variable breaks_decorations bad_decoration
 point-sound = refl
 
 -- the module with these instructions
@@ -77,5 +77,5 @@ pub faults : map type_fault (
     ≡ Some (IdTwice 2) ∷ Some (IdOutOfBound 2) ∷ Some (BadType 2) ∷ Some (BadType 2)
     ∷ None ∷ Some (BadType 3) ∷ Some (BadType 3) ∷ Some (BadType 3)
     ∷ Some (BadType 5) ∷ Some (BadConstant 3) ∷ None ∷ Some (BadConstant 3) ∷ []
-unfolding entry_of kinds ids result definition type_of known_of known_after known_by id_twice id_out_of_bound result_type has_later_type breaks_types bad_type constant_fits bad_constant rule_fault type_fault breaks_decorations bad_decoration
+unfolding entry_of class_of kinds ids result definition type_of known_of known_after known_by id_twice id_out_of_bound result_type has_later_type breaks_types bad_type constant_fits bad_constant rule_fault type_fault breaks_decorations bad_decoration
 faults = refl

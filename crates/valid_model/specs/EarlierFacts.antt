@@ -6,7 +6,7 @@ use Rattle.spirv_model.specs.declared.module.Inst.{Inst}
 use Rattle.spirv_model.specs.Operands.{word_at}
 use Rattle.valid_model.specs.DecorationWords.{decorates, places_member}
 use Rattle.valid_model.specs.ModuleFacts.{ModuleFacts, has_position, is_word}
-use Rattle.spirv_model.specs.declared.class.TheConstants as class
+use Rattle.spirv_model.specs.declared.storage_class.TheConstants as storage_class
 use Rattle.spirv_model.specs.declared.op.TheConstants as op
 
 -- the instruction gives some id this SpecId
@@ -20,7 +20,7 @@ is_variable_of storage inst = (inst.op == op.VARIABLE) && (word_at 2 inst == sto
 -- the instruction is a Uniform variable with this set and binding
 abbrev pub has_slot : ModuleFacts → ℕ → ℕ → Inst → Bool
 has_slot facts set binding inst =
-    is_variable_of class.UNIFORM inst && is_word set (facts.decoration (word_at 1 inst) DESCRIPTOR_SET)
+    is_variable_of storage_class.UNIFORM inst && is_word set (facts.decoration (word_at 1 inst) DESCRIPTOR_SET)
     && is_word binding (facts.decoration (word_at 1 inst) BINDING)
 
 abbrev pub is_position_variable : ModuleFacts → Inst → Bool
@@ -41,6 +41,6 @@ before_of facts insts = record {
   offset = λ id member. list_any (places_member id member) insts;
   spec_id = λ number. list_any (has_spec_id number) insts;
   slot = λ set binding. list_any (has_slot facts set binding) insts;
-  push = list_any (is_variable_of class.PUSH_CONSTANT) insts;
+  push = list_any (is_variable_of storage_class.PUSH_CONSTANT) insts;
   position = list_any (is_position_variable facts) insts;
 }

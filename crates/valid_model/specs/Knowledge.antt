@@ -1,6 +1,6 @@
 -- What is known of the ids of a module, and what that says of types and of constants.
 use Rattle.std.specs.Prelude.{ℕ, Bool, true, false, ◌||◌, ◌==◌, Option, None, Some}
-use Rattle.spirv_model.specs.declared.class.TheConstants.{INPUT, UNIFORM, OUTPUT, PRIVATE, FUNCTION, PUSH_CONSTANT}
+use Rattle.spirv_model.specs.declared.storage_class.TheConstants.{INPUT, UNIFORM, OUTPUT, PRIVATE, FUNCTION, PUSH_CONSTANT}
 use Rattle.valid_model.specs.declared.meaning.Known.{Known}
 use Rattle.valid_model.specs.declared.meaning.Meaning.{Meaning}
 use Rattle.valid_model.specs.declared.meaning.Meaning.TheVariants.{Absent, Shape as OfShape, Constant}

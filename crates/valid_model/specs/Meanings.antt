@@ -1,20 +1,28 @@
 -- What the ids of a module mean, by the first instruction with that result.
-use Rattle.std.specs.Prelude.{ℕ, Bool, ◌&&◌, ◌||◌, ◌==◌, nat_le, if◌then◌else◌, List, is_none, Some, take}
+use Rattle.std.specs.Prelude.{ℕ, Bool, ◌&&◌, ◌||◌, ◌==◌, if◌then◌else◌, List, true, false, is_none, Option, Some, take}
 use Rattle.std.specs.List.{fold}
 use Rattle.std.specs.Option.{unwrap_or}
+use Rattle.spirv_model.specs.declared.class.Class.{Class}
+use Rattle.spirv_model.specs.declared.class.Class.TheVariants as class
 use Rattle.spirv_model.specs.declared.module.Inst.{Inst}
 use Rattle.valid_model.specs.declared.meaning.Known.{Known}
 use Rattle.valid_model.specs.declared.meaning.Meaning.{Meaning}
 use Rattle.valid_model.specs.declared.meaning.Meaning.TheVariants.{Constant, Variable, Value, Label, Other}
-use Rattle.spirv_model.specs.Operands.{word_at}
+use Rattle.spirv_model.specs.Operands.{word_at, class_of}
 use Rattle.valid_model.specs.Definitions.{gives}
 use Rattle.valid_model.specs.Knowledge.{Knowledge, is_storage_class, meaning_in, means, nothing_known}
 use Rattle.valid_model.specs.Types.{array_length, is_type, type_of}
 use Rattle.spirv_model.specs.declared.op.TheConstants as op
 
--- the constants are made by the opcodes from OpConstantTrue to OpSpecConstantOp
+abbrev pub is_constant_class : Option Class → Bool
+is_constant_class (Some class.Constant) = true
+is_constant_class (Some class.SpecConstant) = true
+is_constant_class (Some class.SpecConstantResult) = true
+is_constant_class other = false
+
+-- the instruction makes a constant or a specialization constant
 abbrev pub is_constant : ℕ → Bool
-is_constant opcode = nat_le op.CONSTANT_TRUE opcode && nat_le opcode op.SPEC_CONSTANT_OP
+is_constant opcode = is_constant_class (class_of opcode)
 
 abbrev pub constant_known : Knowledge → ℕ → ℕ → ℕ → Known
 constant_known known opcode type word = record {

@@ -1,12 +1,14 @@
 -- What a whole module says, as far as the rules of decorations ask.
-use Rattle.std.specs.Prelude.{ℕ, Bool, false, ◌||◌, ◌==◌, List, Option, None, Some, is_some}
+use Rattle.std.specs.Prelude.{ℕ, Bool, true, false, ◌==◌, List, Option, None, Some, is_some}
 use Rattle.std.specs.List.{find}
-use Rattle.std.specs.Option.{option_map}
+use Rattle.std.specs.Option.{option_map, option_and_then}
+use Rattle.spirv_model.specs.declared.class.Class.{Class}
+use Rattle.spirv_model.specs.declared.class.Class.TheVariants.{SpecConstant}
 use Rattle.spirv_model.specs.declared.decoration.TheConstants.{BUILT_IN}
 use Rattle.spirv_model.specs.declared.execution_model.TheConstants.{VERTEX}
 use Rattle.spirv_model.specs.declared.module.Inst.{Inst}
 use Rattle.valid_model.specs.declared.meaning.Meaning.{Meaning}
-use Rattle.spirv_model.specs.Operands.{word_at}
+use Rattle.spirv_model.specs.Operands.{word_at, class_of}
 use Rattle.valid_model.specs.DecorationWords.{decoration_of, offset_of}
 use Rattle.valid_model.specs.Definitions.{definition, inst_at}
 use Rattle.valid_model.specs.Meanings.{meaning}
@@ -60,7 +62,10 @@ is_vertex facts = is_word VERTEX facts.model
 abbrev pub has_position : ModuleFacts → ℕ → Bool
 has_position facts id = is_word builtin.POSITION (facts.decoration id BUILT_IN)
 
+abbrev pub is_spec_class : Option Class → Bool
+is_spec_class (Some SpecConstant) = true
+is_spec_class class = false
+
 -- a specialization constant of its own
 abbrev pub is_spec_op : Option ℕ → Bool
-is_spec_op None = false
-is_spec_op (Some opcode) = (opcode == op.SPEC_CONSTANT) || (opcode == op.SPEC_CONSTANT_TRUE) || (opcode == op.SPEC_CONSTANT_FALSE)
+is_spec_op opcode = is_spec_class (option_and_then class_of opcode)

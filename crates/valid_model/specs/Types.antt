@@ -5,6 +5,8 @@ use Rattle.std.specs.List.{list_all, sum_by}
 use Rattle.std.specs.Option.{option_map}
 use Rattle.limits.specs.declared.TheConstants.{TYPE_WORDS}
 use Rattle.spirv_model.specs.declared.module.Inst.{Inst}
+use Rattle.spirv_model.specs.declared.class.Class.{Class}
+use Rattle.spirv_model.specs.declared.class.Class.TheVariants.{TypeDeclaration}
 use Rattle.spirv_model.specs.declared.table.Entry.{Entry}
 use Rattle.spirv_model.specs.declared.table.Entry.TheVariants.{Listed}
 use Rattle.spirv_model.specs.declared.table.Operand.{Operand}
@@ -14,16 +16,20 @@ use Rattle.valid_model.specs.declared.meaning.Meaning.{Meaning}
 use Rattle.valid_model.specs.declared.meaning.Meaning.TheVariants.{Shape as OfShape}
 use Rattle.valid_model.specs.declared.meaning.Shape.{Shape}
 use Rattle.valid_model.specs.declared.meaning.Shape.TheVariants.{Void, Bool as Truth, Int, BoolVector, IntVector, Array, Struct, Pointer, Function}
-use Rattle.spirv_model.specs.Operands.{entry_of, listed_of, word_at, words_from}
+use Rattle.spirv_model.specs.Operands.{entry_of, class_of, listed_of, word_at, words_from}
 use Rattle.valid_model.specs.Definitions.{definition, inst_at}
 use Rattle.valid_model.specs.Knowledge.{Knowledge, a_type, is_data, is_storage_class, is_void, length_in, meaning_in, size_in}
 use Rattle.spirv_model.specs.declared.op.TheConstants as op
 
 -- ---- types, where they are allowed
 
--- the types are declared by the opcodes from OpTypeVoid to OpTypeFunction
+abbrev pub is_type_class : Option Class → Bool
+is_type_class (Some TypeDeclaration) = true
+is_type_class class = false
+
+-- the instruction declares a type
 abbrev pub is_type : ℕ → Bool
-is_type opcode = nat_le op.TYPE_VOID opcode && nat_le opcode op.TYPE_FUNCTION
+is_type opcode = is_type_class (class_of opcode)
 
 -- an integer has 32 bits, and is unsigned or signed
 abbrev pub integer_type : ℕ → ℕ → Option Known
@@ -117,7 +123,7 @@ is_result_type (Some IdResultType ∷ more) = true
 is_result_type listed = false
 
 abbrev pub result_type_in : Option Entry → Inst → Option ℕ
-result_type_in (Some (Listed operands)) inst = if is_result_type (listed_of operands) then Some (word_at 0 inst) else None
+result_type_in (Some (Listed class operands)) inst = if is_result_type (listed_of operands) then Some (word_at 0 inst) else None
 result_type_in entry inst = None
 
 unfoldable pub result_type : Inst → Option ℕ

@@ -5,7 +5,7 @@ use Rattle.valid_model.specs.Blocks.{points_to_block}
 use Rattle.valid_model.specs.EarlierFacts.{EarlierFacts}
 use Rattle.valid_model.specs.ModuleFacts.{ModuleFacts, has_position, is_decorated}
 use Rattle.valid_model.specs.Shapes.{held_type, is_integers}
-use Rattle.spirv_model.specs.declared.class.TheConstants as class
+use Rattle.spirv_model.specs.declared.storage_class.TheConstants as storage_class
 
 -- neither or both of Location and BuiltIn
 abbrev pub lacks_place : Bool → Bool → Bool
@@ -15,7 +15,7 @@ lacks_place false b = not b
 -- an Input or Output variable with neither or both of Location and BuiltIn
 abbrev pub bad_interface : ModuleFacts → ℕ → ℕ → Bool
 bad_interface facts id storage =
-    ((storage == class.INPUT) || (storage == class.OUTPUT)) && lacks_place (is_decorated facts id LOCATION) (is_decorated facts id BUILT_IN)
+    ((storage == storage_class.INPUT) || (storage == storage_class.OUTPUT)) && lacks_place (is_decorated facts id LOCATION) (is_decorated facts id BUILT_IN)
 
 -- a Location on anything else than an integer or a vector of integers
 abbrev pub bad_location : ModuleFacts → ℕ → ℕ → Bool
@@ -29,13 +29,13 @@ bad_slot before set binding = true
 -- a Uniform variable without a slot of its own, or that is no block
 abbrev pub bad_uniform : ModuleFacts → EarlierFacts → ℕ → ℕ → ℕ → Bool
 bad_uniform facts before type id storage =
-    (storage == class.UNIFORM)
+    (storage == storage_class.UNIFORM)
     && (bad_slot before (facts.decoration id DESCRIPTOR_SET) (facts.decoration id BINDING) || not (points_to_block facts type))
 
 -- a second PushConstant variable, or one that is no block
 abbrev pub bad_push : ModuleFacts → EarlierFacts → ℕ → ℕ → Bool
 bad_push facts before type storage =
-    (storage == class.PUSH_CONSTANT) && (before.push || not (points_to_block facts type))
+    (storage == storage_class.PUSH_CONSTANT) && (before.push || not (points_to_block facts type))
 
 -- a second variable with the built-in Position
 abbrev pub second_position : ModuleFacts → EarlierFacts → ℕ → Bool

@@ -15,10 +15,10 @@ returns-in-Some-Float c =
 
 pub returns-then-not-fit : goal.returns-then-not-fit
 returns-then-not-fit c =
-    entries.misfit c.args.place _ c.in-Some-Listed.operands _
+    entries.misfit c.args.place _ _ c.in-Some-Listed.operands _
     (sym c.entry_of.ensures ∙ ap (λ o. option_copied o) c.in-Some-Listed.is ∙ ap (λ e. Some e) c.in-Some-Listed.field-0-is) c.fit.ensures c.if-not-fit.true
 
 pub returns-else-not-fit : goal.returns-else-not-fit
 returns-else-not-fit c =
-    entries.fitting c.args.place _ c.in-Some-Listed.operands _
+    entries.fitting c.args.place _ _ c.in-Some-Listed.operands _
     (sym c.entry_of.ensures ∙ ap (λ o. option_copied o) c.in-Some-Listed.is ∙ ap (λ e. Some e) c.in-Some-Listed.field-0-is) c.fit.ensures c.if-not-fit.false
