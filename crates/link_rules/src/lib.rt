@@ -1,12 +1,12 @@
 //! Which pipeline libraries link, and the state that they make.
 #![tactic(auto)]
 
-pub mod counts;
-pub mod one;
+mod contents;
+mod counts;
 
 ghost use Rattle.std.specs.Prelude.{◌≡◌, false, None, Some, MatchResult};
 ghost use Rattle.state_model.specs.Lawful.{IsLawful};
-ghost use Rattle.state_model.specs.Link.{refuses, linked_state};
+ghost use Rattle.state_model.specs.Link.{failed_rule, linked_state};
 
 pub use fragment_lib::FragmentLib;
 pub use output_lib::OutputLib;
@@ -29,21 +29,21 @@ ghost use Rattle.link_rules.specs.Parts.{HoldsLawfulParts};
 impl Libs {
     /// The state that linked libraries make: each subset's part.
     pub fn state(&self) -> State
-        requires links { refuses (libraries self.now) false ≡ None }
+        requires links { failed_rule (libraries self.now) false ≡ None }
         requires parts { HoldsLawfulParts (libraries self.now) }
         ensures parts { linked_state (libraries self.now) ≡ Some result }
         ensures lawful { IsLawful result }
     {
-        one::state_of_one(&counts::one_of(self))
+        contents::state_of_single(&counts::single_of(self))
     }
 }
 
 /// Whether the libraries link, or the first rule, by number, that fails. L10 counts for an optimized link alone.
-#[tactic(auto, unfolding(state_model::specs::Link::refuses, state_model::specs::Link::fails))]
+#[tactic(auto, unfolding(state_model::specs::Link::failed_rule, state_model::specs::Link::rule_if))]
 pub fn link(libs: &Libs, optimise: bool) -> Result<(), Rule>
     ensures { MatchResult result
-        (λ _. refuses (libraries libs.now) optimise ≡ None)
-        (λ rule. refuses (libraries libs.now) optimise ≡ Some rule) }
+        (λ _. failed_rule (libraries libs.now) optimise ≡ None)
+        (λ rule. failed_rule (libraries libs.now) optimise ≡ Some rule) }
 {
     if counts::lacks_subset(libs) {
         return Err(Rule::L1);
@@ -51,7 +51,7 @@ pub fn link(libs: &Libs, optimise: bool) -> Result<(), Rule>
     if counts::repeats_subset(libs) {
         return Err(Rule::L2);
     }
-    one::link_contents(&counts::one_of(libs), optimise)
+    contents::link_contents(&counts::single_of(libs), optimise)
 }
 
 #[cfg(test)]

@@ -6,9 +6,10 @@ ghost use Rattle.state_model.specs.Canonical.{canonical, canonical_entries, cano
 ghost use Rattle.state_key.specs.AllDeclared.{DeclaresAll};
 
 use crate::tidy::is_named;
+use limits::{ENTRIES, VERTEX_BINDINGS};
+use state_model::vulkan::{CULL_MODE_NONE, LOGIC_OP_COPY};
 use state_model::{
-    BINDINGS, COPY, ENTRIES, Entry, FragmentPart, OutputPart, PrerastPart, SpecValues, State,
-    Topology, VertexPart,
+    Entry, FragmentPart, OutputPart, PrerastPart, SpecValues, State, Topology, VertexPart,
 };
 
 /// The canonical form of a lawful state whose vertex module declares the specialization constants `vs_ids` and whose
@@ -42,8 +43,8 @@ fn canonical_state(state: &State, vs_ids: &[u32], fs_ids: &[u32]) -> State
 fn canonical_vertex(v: &VertexPart) -> VertexPart
     ensures { result ≡ canonical_vertex v.now }
 {
-    let mut bindings = [None; BINDINGS];
-    for number in 0..BINDINGS {
+    let mut bindings = [None; VERTEX_BINDINGS];
+    for number in 0..VERTEX_BINDINGS {
         if is_named(&v.attributes, number) {
             bindings[number] = v.bindings[number];
         }
@@ -58,7 +59,7 @@ fn canonical_prerast(p: &PrerastPart, topology: Topology, ids: &[u32]) -> Preras
     let entries = canonical_entries(&p.entries, ids);
     match topology {
         Topology::Points => PrerastPart {
-            cull: 0,
+            cull: CULL_MODE_NONE,
             ccw: false,
             entries,
             ..*p
@@ -85,7 +86,7 @@ fn canonical_output(o: OutputPart) -> OutputPart
     ensures { result ≡ canonical_output o }
 {
     OutputPart {
-        logic: o.logic.filter(|op| *op != COPY),
+        logic: o.logic.filter(|op| *op != LOGIC_OP_COPY),
         ..o
     }
 }

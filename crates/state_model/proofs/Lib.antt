@@ -1,1 +1,2 @@
-mod Rows
+mod KeyWords
+mod Numbers

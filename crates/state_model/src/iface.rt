@@ -1,4 +1,4 @@
-use crate::LOCATIONS;
+use limits::LOCATIONS;
 
 /// One location of a stage's interface: a vector of 32-bit integers.
 #[derive(Clone, Copy, Debug, PartialEq, Eq)]

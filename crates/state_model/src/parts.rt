@@ -1,4 +1,4 @@
-use crate::{ATTACHMENTS, BINDINGS, ENTRIES, LOCATIONS, SETS};
+use limits::{ATTACHMENTS, DESCRIPTOR_SETS, ENTRIES, LOCATIONS, VERTEX_BINDINGS};
 
 /// `VkPrimitiveTopology`, point list or triangle list.
 #[derive(Clone, Copy, Debug, PartialEq, Eq)]
@@ -36,7 +36,7 @@ pub struct Layout {
     /// 32-bit words of push constants, 0 to 32.
     pub push_words: u8,
     /// For each set that is defined, the mask of its bindings.
-    pub sets: [Option<u8>; SETS],
+    pub sets: [Option<u8>; DESCRIPTOR_SETS],
 }
 
 /// A specialization constant's value.
@@ -56,7 +56,7 @@ pub struct SpecValues {
 /// The depth test.
 #[derive(Clone, Copy, Debug, PartialEq, Eq)]
 pub struct Depth {
-    /// `VkCompareOp`, 0 to 7.
+    /// One of the `COMPARE_OP`s of `vulkan`.
     pub compare: u8,
     pub write: bool,
 }
@@ -64,7 +64,7 @@ pub struct Depth {
 /// The multisample state.
 #[derive(Clone, Copy, Debug, PartialEq, Eq)]
 pub struct Multisample {
-    /// 1, 2 or 4.
+    /// One of the `SAMPLE_COUNT`s of `vulkan`.
     pub samples: u8,
     /// Bit i for sample i; below 2 to the number of samples.
     pub mask: u8,
@@ -73,7 +73,7 @@ pub struct Multisample {
 /// One colour attachment.
 #[derive(Clone, Copy, Debug, PartialEq, Eq)]
 pub struct Attachment {
-    /// 1 to 4 are unsigned with so many components, 5 to 8 signed with 1 to 4.
+    /// One of the `FORMAT`s of `format`.
     pub format: u8,
     /// Bit i for component i; below 2 to the number of components.
     pub write_mask: u8,
@@ -85,7 +85,7 @@ pub struct VertexPart {
     /// Whether link time optimization information is retained.
     pub retain: bool,
     pub topology: Topology,
-    pub bindings: [Option<VertexBinding>; BINDINGS],
+    pub bindings: [Option<VertexBinding>; VERTEX_BINDINGS],
     /// By location.
     pub attributes: [Option<Attribute>; LOCATIONS],
 }
@@ -102,7 +102,7 @@ pub struct PrerastPart {
     pub view_mask: u8,
     /// `rasterizerDiscardEnable`.
     pub discard: bool,
-    /// `VkCullModeFlags`: 1 front, 2 back.
+    /// One of the `CULL_MODE`s of `vulkan`.
     pub cull: u8,
     /// Whether counter-clockwise triangles are front-facing.
     pub ccw: bool,
@@ -132,7 +132,7 @@ pub struct OutputPart {
     /// Bit i for view i, below 16.
     pub view_mask: u8,
     pub multisample: Multisample,
-    /// `VkLogicOp`, 0 to 15, where logic operations are enabled.
+    /// One of the `LOGIC_OP`s of `vulkan`, where logic operations are enabled.
     pub logic: Option<u8>,
     /// By location.
     pub attachments: [Option<Attachment>; ATTACHMENTS],

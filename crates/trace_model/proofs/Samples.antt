@@ -5,7 +5,7 @@ use Rattle.std.specs.Fmt.{digits}
 use Rattle.spirv_model.specs.Module.{list_of_cut}
 use Rattle.spirv_model.specs.Operands.{entry_of, kinds}
 use Rattle.draw_model.specs.Coverage.{covered, is_guarded}
-use Rattle.trace_model.specs.Form.{point_form, colour_form}
+use Rattle.trace_model.specs.Form.{point_form, colour_form, side_value}
 use Rattle.trace_model.specs.Output.{due_to}
 
 -- one point in colour 42 on a target of two pixels
@@ -42,3 +42,10 @@ no_line_feed = refl
 pub no_bytes : due_to (codes "") ≡ None
 unfolding digits point_form colour_form list_of_cut entry_of kinds covered is_guarded
 no_bytes = refl
+
+-- the greatest side of a target, and one more
+pub greatest_side : side_value (codes "256") ≡ Some 256
+greatest_side = refl
+
+pub beyond_greatest_side : side_value (codes "257") ≡ None
+beyond_greatest_side = refl

@@ -5,9 +5,9 @@ ghost use Rattle.std.specs.Prelude.{◌≡◌, ◌<◌, ◌≤◌, IfSome, ℕ, 
 ghost use Rattle.state_model.specs.Lawful.{IsVertexPart, IsVertexBinding, IsAttribute};
 ghost use Rattle.draw_model.specs.Fetch.{fetched, buffer_word, attribute_start, attribute_component, components};
 
-use limits::{COMPONENTS, LOCATIONS};
+use limits::{COMPONENTS, LOCATIONS, VERTEX_BINDINGS};
 use state_model::{Attribute, VertexBinding};
-pub use state_model::{BINDINGS, Buffers, VertexPart};
+pub use state_model::{Buffers, VertexPart};
 
 /// A vertex input interface library.
 #[derive(Clone, Copy, Debug, PartialEq, Eq)]
@@ -34,7 +34,7 @@ impl VertexLib {
     pub fn fetch(
         &self,
         buffers: &Buffers,
-        bound: &[Option<u16>; BINDINGS],
+        bound: &[Option<u16>; VERTEX_BINDINGS],
         location: u8,
         vertex: u32,
         instance: u32,
@@ -113,7 +113,7 @@ mod tests {
     fn part() -> VertexPart
         ensures { IsVertexPart result }
     {
-        let mut bindings = [None; BINDINGS];
+        let mut bindings = [None; VERTEX_BINDINGS];
         bindings[1] = Some(VertexBinding {
             stride: 2,
             per_instance: true,
@@ -148,7 +148,7 @@ mod tests {
             [0; 4]
         );
         assert_eq!(rt;
-            library.fetch(&buffers, &[Some(0); BINDINGS], 2, 0, 0),
+            library.fetch(&buffers, &[Some(0); VERTEX_BINDINGS], 2, 0, 0),
             [0; 4]
         );
         Ok(())

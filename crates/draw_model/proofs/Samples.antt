@@ -47,13 +47,29 @@ point_second : covered Points (at 511 256 ∷ []) 1 1 ≡ true
 unfolding covered is_guarded edge_value owns_centres is_inside is_inside_all triangle_covers
 point_second = refl
 
-less_is_signed : passes_depth 1 0x8000_0000 0x7fff_ffff ≡ true
-less_is_signed = refl
+-- of the greatest and the least depth, and of the least and the greatest
+greatest_with_least :
+    map (λ compare. passes_depth compare 0x7fff_ffff 0x8000_0000) (0 ∷ 1 ∷ 2 ∷ 3 ∷ 4 ∷ 5 ∷ 6 ∷ 7 ∷ [])
+    ≡ false ∷ false ∷ false ∷ false ∷ true ∷ true ∷ true ∷ true ∷ []
+greatest_with_least = refl
+
+least_with_greatest :
+    map (λ compare. passes_depth compare 0x8000_0000 0x7fff_ffff) (0 ∷ 1 ∷ 2 ∷ 3 ∷ 4 ∷ 5 ∷ 6 ∷ 7 ∷ [])
+    ≡ false ∷ true ∷ false ∷ true ∷ false ∷ true ∷ false ∷ true ∷ []
+least_with_greatest = refl
+
+with_itself :
+    map (λ compare. passes_depth compare 5 5) (0 ∷ 1 ∷ 2 ∷ 3 ∷ 4 ∷ 5 ∷ 6 ∷ 7 ∷ [])
+    ≡ false ∷ false ∷ true ∷ true ∷ false ∷ false ∷ true ∷ true ∷ []
+with_itself = refl
 
 masked_copy : stored_pixel (Some 3) 5 (1 ∷ 2 ∷ 3 ∷ 4 ∷ []) (9 ∷ 9 ∷ 9 ∷ 9 ∷ []) ≡ 1 ∷ 9 ∷ 3 ∷ 9 ∷ []
 unfolding stored_pixel
 masked_copy = refl
 
+-- of 1100 and 1010, in the order of the operations' numbers
 logic_results_of_one_pair :
-    map (λ op. logic_result op 12 10) (0 ∷ 1 ∷ 2 ∷ 4 ∷ 6 ∷ 7 ∷ 11 ∷ 15 ∷ []) ≡ 0 ∷ 8 ∷ 4 ∷ 2 ∷ 6 ∷ 14 ∷ 0xffff_fffd ∷ 0xffff_ffff ∷ []
+    map (λ op. logic_result op 12 10) (0 ∷ 1 ∷ 2 ∷ 3 ∷ 4 ∷ 5 ∷ 6 ∷ 7 ∷ 8 ∷ 9 ∷ 10 ∷ 11 ∷ 12 ∷ 13 ∷ 14 ∷ 15 ∷ [])
+    ≡ 0 ∷ 8 ∷ 4 ∷ 12 ∷ 2 ∷ 10 ∷ 6 ∷ 14 ∷ 0xffff_fff1 ∷ 0xffff_fff9 ∷ 0xffff_fff5 ∷ 0xffff_fffd ∷ 0xffff_fff3 ∷ 0xffff_fffb
+    ∷ 0xffff_fff7 ∷ 0xffff_ffff ∷ []
 logic_results_of_one_pair = refl
