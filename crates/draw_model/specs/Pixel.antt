@@ -50,8 +50,8 @@ abbrev pub logic_result : ℕ → ℕ → ℕ → ℕ
 logic_result op s d = slice_index (logic_results s d) op
 
 -- without an operation it is the source
-abbrev pub written : Option ℕ → ℕ → ℕ → ℕ
-written op s d = option_map_or (λ op. logic_result op s d) op s
+abbrev pub written_component : Option ℕ → ℕ → ℕ → ℕ
+written_component op s d = option_map_or (λ op. logic_result op s d) op s
 
 abbrev pub has_bit : ℕ → ℕ → Bool
 has_bit mask i = mask / 2 ^ i % 2 == 1
@@ -59,7 +59,7 @@ has_bit mask i = mask / 2 ^ i % 2 == 1
 -- component i: written where its bit of the mask is set, else as it was
 abbrev pub stored_component : Option ℕ → ℕ → List ℕ → List ℕ → ℕ → ℕ
 stored_component op mask s d i =
-    if has_bit mask i then written op (slice_index s i) (slice_index d i) else slice_index d i
+    if has_bit mask i then written_component op (slice_index s i) (slice_index d i) else slice_index d i
 
 unfoldable pub stored_pixel : Option ℕ → ℕ → List ℕ → List ℕ → List ℕ
 stored_pixel op mask s d = map (stored_component op mask s d) (range_with_len 0 COMPONENTS)

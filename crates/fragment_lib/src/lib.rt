@@ -13,8 +13,11 @@ pub use state_model::{FragmentPart, Iface};
 /// A fragment shader library: its part, and its module's interface.
 #[derive(Clone, Copy, Debug, PartialEq, Eq)]
 pub struct FragmentLib {
+    /// The state that it has.
     pub part: FragmentPart,
+    /// What the fragment module reads.
     pub inputs: Iface,
+    /// What the fragment module writes.
     pub outputs: Iface,
 }
 

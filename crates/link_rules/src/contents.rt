@@ -1,5 +1,6 @@
 //! The rules on what the libraries hold, where there is one of each subset.
-ghost use Rattle.std.specs.Prelude.{◌≡◌, None, Some, MatchResult, ◌<◌};
+ghost use Rattle.std.specs.Prelude.{◌≡◌, ◌<◌};
+ghost use Rattle.std.specs.Result.{result_err};
 ghost use Rattle.state_model.specs.Lawful.{present_at};
 ghost use Rattle.state_model.specs.Link.{failed_content_rule, has_unused_subset, independence_differs, layouts_disagree, view_masks_differ, multisample_differs, unfed_input, misfed_input, lacks_retained, misfits, lacks_attribute, misfits_output, disagree, differ_sets, clash, some_set, differ_multisample};
 
@@ -36,9 +37,7 @@ pub fn state_of_single(libs: &SingleLibs) -> State
 /// The first rule that fails, from L3 on.
 #[tactic(auto, unfolding(state_model::specs::Link::failed_content_rule, state_model::specs::Link::rule_if, state_model::specs::Link::rule_at))]
 pub fn link_contents(libs: &SingleLibs, optimise: bool) -> Result<(), Rule>
-    ensures { MatchResult result
-        (λ _. failed_content_rule (libraries_of_single libs.now) optimise ≡ None)
-        (λ rule. failed_content_rule (libraries_of_single libs.now) optimise ≡ Some rule) }
+    ensures { result_err result ≡ failed_content_rule (libraries_of_single libs.now) optimise }
 {
     if has_unused_subset(libs) {
         return Err(Rule::L3);

@@ -8,6 +8,7 @@ use crate::Libs;
 use crate::contents::SingleLibs;
 
 #[tactic(auto, unfolding(state_model::specs::Link::lacks_subset))]
+/// Whether a subset that the pipeline needs isn't given.
 pub fn lacks_subset(libs: &Libs) -> bool
     ensures { result ≡ lacks_subset (libraries libs.now) }
 {
@@ -17,6 +18,7 @@ pub fn lacks_subset(libs: &Libs) -> bool
 }
 
 #[tactic(auto, unfolding(state_model::specs::Link::repeats_subset))]
+/// Whether a subset is given more than once.
 pub fn repeats_subset(libs: &Libs) -> bool
     ensures { result ≡ repeats_subset (libraries libs.now) }
 {

@@ -3,7 +3,7 @@
 
 ghost use Rattle.std.specs.Prelude.{◌≡◌, ◌≤◌};
 ghost use Rattle.std.specs.Option.{ForSome};
-ghost use Rattle.draw_model.specs.Pixel.{logic_result, stored_pixel, written};
+ghost use Rattle.draw_model.specs.Pixel.{logic_result, stored_pixel, written_component};
 
 use limits::COMPONENTS;
 pub use state_model::OutputPart;
@@ -17,6 +17,7 @@ use state_model::vulkan::{
 /// A fragment output interface library.
 #[derive(Clone, Copy, Debug, PartialEq, Eq)]
 pub struct OutputLib {
+    /// The state that it has.
     pub part: OutputPart,
 }
 
@@ -58,7 +59,7 @@ pub fn logic(op: u8, s: u32, d: u32) -> u32
 // What is written for one component: without an operation the source.
 fn written_word(op: Option<u8>, s: u32, d: u32) -> u32
     requires { ForSome op (λ op. op ≤ LOGIC_OP_SET) }
-    ensures { result ≡ written op s d }
+    ensures { result ≡ written_component op s d }
 {
     match op {
         Some(op) => logic(op, s, d),

@@ -3,7 +3,7 @@ ghost use Rattle.std.specs.Prelude.{◌≡◌, ◌<◌, IfSome, map};
 ghost use Rattle.std.specs.Option.{option_map};
 ghost use Rattle.state_model.specs.Lawful.{IsLawful, IsSpecValues, AllPresent, IsEntry};
 ghost use Rattle.state_model.specs.Canonical.{canonical, canonical_entries, canonical_vertex, canonical_prerast, canonical_fragment, canonical_output, if_declared, is_declared, entry_rank, without_copy, IsCanonicalOf, IsTidy};
-ghost use Rattle.state_key.specs.AllDeclared.{DeclaresAll};
+ghost use Rattle.state_key.specs.AllDeclared.{KeepsTidy};
 
 use crate::tidy::is_named;
 use limits::{ENTRIES, VERTEX_BINDINGS};
@@ -20,9 +20,7 @@ pub fn canon(state: &State, vs_ids: &[u32], fs_ids: &[u32]) -> State
     ensures form { IsCanonicalOf vs_ids.now fs_ids.now state.now result }
     ensures lawful { IsLawful result }
     ensures tidy { IsTidy result }
-
-    // Of a tidy state it drops at most entries that no module declares.
-    ensures unchanged { IsTidy state.now → DeclaresAll vs_ids.now fs_ids.now state.now → result ≡ state.now }
+    ensures unchanged { KeepsTidy vs_ids.now fs_ids.now state.now result }
 {
     canonical_state(state, vs_ids, fs_ids)
 }

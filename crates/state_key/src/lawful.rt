@@ -2,7 +2,7 @@
 ghost use Rattle.std.specs.Prelude.{◌≡◌, ◌↔◌, ℕ, ◌<◌, IsTrue, IsSome, IfSome, length};
 ghost use Rattle.std.specs.List.{AllPairs};
 ghost use Rattle.state_key.specs.Distinct.{DiffersFromEarlier};
-ghost use Rattle.state_model.specs.Lawful.{AllPresent, present_at, IsVertexBinding, IsAttribute, IsLayout, IsEntry, HaveDifferentIds, IsSpecValues, IsDepth, IsMultisample, IsAttachment, BindingsAreThere, IsVertexPart, IsPrerastPart, IsFragmentPart, IsOutputPart, Accord, IsLawful, IsViewMask};
+ghost use Rattle.state_model.specs.Lawful.{AllPresent, present_at, IsVertexBinding, IsAttribute, IsLayout, IsEntry, HaveDifferentIds, IsSpecValues, IsDepth, IsMultisample, IsAttachment, BindingsAreThere, IsVertexPart, IsPrerastPart, IsFragmentPart, IsOutputPart, Accord, IsLawful, IsViewMask, MultisamplesAccord};
 
 use limits::{
     COMPONENTS, DESCRIPTOR_BINDINGS, MAX_OFFSET, MAX_STRIDE, MODULES, PUSH_WORDS, VERTEX_BINDINGS,
@@ -191,7 +191,7 @@ fn accords(s: &State) -> bool
 }
 
 fn multisamples_accord(s: &State) -> bool
-    ensures { IsTrue result ↔ IfSome s.now.fragment (λ f. IfSome f.multisample (λ m. IfSome s.now.output (λ o. m ≡ o.multisample))) }
+    ensures { IsTrue result ↔ MultisamplesAccord s.now.fragment s.now.output }
 {
     let (Some(fragment), Some(output)) = (&s.fragment, &s.output) else {
         return true;

@@ -21,6 +21,7 @@ impl Model for KeyWords {
 }
 
 impl KeyWords {
+    /// No words yet.
     pub fn new() -> KeyWords
         ensures { result ≡ [] }
     {
@@ -30,6 +31,7 @@ impl KeyWords {
         }
     }
 
+    /// The next word.
     pub fn push(&mut self, word: u64)
         requires { length self.old < KEY_WORDS }
         ensures { self.new ≡ self.old ++ word ∷ [] }

@@ -18,32 +18,32 @@ use Rattle.state_model.specs.declared.parts.FragmentPart.{FragmentPart}
 use Rattle.state_model.specs.declared.parts.OutputPart.{OutputPart}
 use Rattle.state_model.specs.declared.parts.State.{State}
 
-abbrev binding : ℕ → Bool → Option VertexBinding
+abbrev pub binding : ℕ → Bool → Option VertexBinding
 binding stride per_instance = Some (record { stride = stride; per_instance = per_instance })
 
-abbrev attribute : ℕ → ℕ → Bool → ℕ → Option Attribute
+abbrev pub attribute : ℕ → ℕ → Bool → ℕ → Option Attribute
 attribute number comps signed offset = Some (record { binding = number; comps = comps; signed = signed; offset = offset })
 
-abbrev layout : Bool → ℕ → List (Option ℕ) → Layout
+abbrev pub layout : Bool → ℕ → List (Option ℕ) → Layout
 layout independent push_words sets = record { independent = independent; push_words = push_words; sets = sets }
 
-abbrev entry : ℕ → ℕ → Option Entry
+abbrev pub entry : ℕ → ℕ → Option Entry
 entry id value = Some (record { id = id; value = value })
 
-abbrev attachment : ℕ → ℕ → Option Attachment
+abbrev pub attachment : ℕ → ℕ → Option Attachment
 attachment format write_mask = Some (record { format = format; write_mask = write_mask })
 
-abbrev samples_and_mask : ℕ → ℕ → Multisample
+abbrev pub samples_and_mask : ℕ → ℕ → Multisample
 samples_and_mask samples mask = record { samples = samples; mask = mask }
 
-abbrev no_sets : List (Option ℕ)
+abbrev pub no_sets : List (Option ℕ)
 no_sets = replicate DESCRIPTOR_SETS None
 
-abbrev no_entries : SpecValues
+abbrev pub no_entries : SpecValues
 no_entries = record { entries = replicate ENTRIES None }
 
 -- nothing is there but the four parts
-abbrev vertex_part : Bool → Topology → VertexPart
+abbrev pub vertex_part : Bool → Topology → VertexPart
 vertex_part retain topology = record {
   retain = retain;
   topology = topology;
@@ -51,7 +51,7 @@ vertex_part retain topology = record {
   attributes = replicate LOCATIONS None;
 }
 
-abbrev prerast_part : Bool → Bool → ℕ → Bool → PrerastPart
+abbrev pub prerast_part : Bool → Bool → ℕ → Bool → PrerastPart
 prerast_part retain discard cull ccw = record {
   retain = retain;
   «module» = 0;
@@ -63,7 +63,7 @@ prerast_part retain discard cull ccw = record {
   entries = no_entries;
 }
 
-abbrev fragment_part : Bool → FragmentPart
+abbrev pub fragment_part : Bool → FragmentPart
 fragment_part retain = record {
   retain = retain;
   «module» = 0;
@@ -74,7 +74,7 @@ fragment_part retain = record {
   entries = no_entries;
 }
 
-abbrev output_part : Bool → OutputPart
+abbrev pub output_part : Bool → OutputPart
 output_part retain = record {
   retain = retain;
   view_mask = 0;

@@ -1,2 +1,3 @@
 mod KeyWords
+mod Links
 mod Numbers

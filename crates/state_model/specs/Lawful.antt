@@ -108,14 +108,19 @@ pub record IsOutputPart (o : OutputPart) : Type 0 where
   pub attachment_count : length o.attachments ≡ ATTACHMENTS
   pub attachments : AllPresent IsAttachment o.attachments
 
+-- where a fragment part has a multisample state, it is that of the output part
+abbrev pub MultisamplesAccord : Option FragmentPart → Option OutputPart → Type 0
+MultisamplesAccord fragment output =
+    IfSome fragment (λ f. IfSome f.multisample (λ m. IfSome output (λ o. m ≡ o.multisample)))
+
 -- fragment and output parts are there exactly where rasterization isn't discarded, the view masks are equal, and
--- the fragment part's multisample state is absent or the output part's
+-- the multisample states accord
 pub record Accord (s : State) : Type 0 where
   pub fragment_there : IsTrue s.prerast.discard ↔ IsNone s.fragment
   pub output_there : IsTrue s.prerast.discard ↔ IsNone s.output
   pub fragment_views : IfSome s.fragment (λ f. f.view_mask ≡ s.prerast.view_mask)
   pub output_views : IfSome s.output (λ o. o.view_mask ≡ s.prerast.view_mask)
-  pub multisample : IfSome s.fragment (λ f. IfSome f.multisample (λ m. IfSome s.output (λ o. m ≡ o.multisample)))
+  pub multisample : MultisamplesAccord s.fragment s.output
 
 pub record IsLawful (s : State) : Type 0 where
   pub vertex : IsVertexPart s.vertex

@@ -1,6 +1,6 @@
 -- Linking pipeline libraries: the ten rules, each a condition on the lists of libraries that are given, and the state
 -- that they make.
-use Rattle.std.specs.Prelude.{ℕ, ◌==◌, Bool, true, false, cond, not, ◌&&◌, ◌||◌, nat_lt, List, [], ◌∷◌, ◌++◌, Option, Some, None, map, length, if◌then◌else◌}
+use Rattle.std.specs.Prelude.{◌≡◌, ℕ, ◌==◌, Bool, true, false, cond, not, ◌&&◌, ◌||◌, nat_lt, List, [], ◌∷◌, ◌++◌, Option, Some, None, map, length, if◌then◌else◌}
 use Rattle.std.specs.List.{find, list_any, range_with_len}
 use Rattle.std.specs.Option.{option_and_then, option_map, option_map_or}
 use Rattle.state_model.specs.Lawful.{present_at}
@@ -178,6 +178,10 @@ failed_content_rule libs optimise =
 -- the first rule that fails, by number; L10 counts for an optimized link alone
 unfoldable pub failed_rule : Libraries → Bool → Option Rule
 failed_rule libs optimise = rule_if (lacks_subset libs) L1 (rule_if (repeats_subset libs) L2 (failed_content_rule libs optimise))
+
+-- they link; L10 isn't asked for
+abbrev pub Links : Libraries → Type 0
+Links libs = failed_rule libs false ≡ None
 
 abbrev pub first : {X : Type 0} → List X → Option X
 first [] = None

@@ -3,7 +3,9 @@ use limits::{ATTACHMENTS, DESCRIPTOR_SETS, ENTRIES, LOCATIONS, VERTEX_BINDINGS};
 /// `VkPrimitiveTopology`, point list or triangle list.
 #[derive(Clone, Copy, Debug, PartialEq, Eq)]
 pub enum Topology {
+    /// `VK_PRIMITIVE_TOPOLOGY_POINT_LIST`.
     Points,
+    /// `VK_PRIMITIVE_TOPOLOGY_TRIANGLE_LIST`.
     Triangles,
 }
 
@@ -23,6 +25,7 @@ pub struct Attribute {
     pub binding: u8,
     /// Components, 1 to 4.
     pub comps: u8,
+    /// Whether the components are signed.
     pub signed: bool,
     /// In 32-bit words, 0 to 1023.
     pub offset: u32,
@@ -44,12 +47,14 @@ pub struct Layout {
 pub struct Entry {
     /// The `SpecId`.
     pub id: u32,
+    /// The constant's 32 bits.
     pub value: u32,
 }
 
 /// The specialization constants of one stage.
 #[derive(Clone, Copy, Debug, PartialEq, Eq)]
 pub struct SpecValues {
+    /// No two with one id.
     pub entries: [Option<Entry>; ENTRIES],
 }
 
@@ -58,6 +63,7 @@ pub struct SpecValues {
 pub struct Depth {
     /// One of the `COMPARE_OP`s of `vulkan`.
     pub compare: u8,
+    /// Whether a depth that passes is stored (`depthWriteEnable`).
     pub write: bool,
 }
 
@@ -84,7 +90,9 @@ pub struct Attachment {
 pub struct VertexPart {
     /// Whether link time optimization information is retained.
     pub retain: bool,
+    /// How vertices make primitives.
     pub topology: Topology,
+    /// By the bindings' numbers.
     pub bindings: [Option<VertexBinding>; VERTEX_BINDINGS],
     /// By location.
     pub attributes: [Option<Attribute>; LOCATIONS],
@@ -97,6 +105,7 @@ pub struct PrerastPart {
     pub retain: bool,
     /// The vertex module's number, below 64.
     pub module: u32,
+    /// What the shader's descriptors and push constants are declared as.
     pub layout: Layout,
     /// Bit i for view i, below 16.
     pub view_mask: u8,
@@ -106,6 +115,7 @@ pub struct PrerastPart {
     pub cull: u8,
     /// Whether counter-clockwise triangles are front-facing.
     pub ccw: bool,
+    /// The values of the module's specialization constants.
     pub entries: SpecValues,
 }
 
@@ -116,11 +126,15 @@ pub struct FragmentPart {
     pub retain: bool,
     /// The fragment module's number, below 64.
     pub module: u32,
+    /// What the shader's descriptors and push constants are declared as.
     pub layout: Layout,
     /// Bit i for view i, below 16.
     pub view_mask: u8,
+    /// The depth test, where it is enabled.
     pub depth: Option<Depth>,
+    /// Where it is there, that of the fragment output interface.
     pub multisample: Option<Multisample>,
+    /// The values of the module's specialization constants.
     pub entries: SpecValues,
 }
 
@@ -131,6 +145,7 @@ pub struct OutputPart {
     pub retain: bool,
     /// Bit i for view i, below 16.
     pub view_mask: u8,
+    /// The samples of each pixel, and which of them are written.
     pub multisample: Multisample,
     /// One of the `LOGIC_OP`s of `vulkan`, where logic operations are enabled.
     pub logic: Option<u8>,
@@ -141,8 +156,12 @@ pub struct OutputPart {
 /// The whole state of a graphics pipeline.
 #[derive(Clone, Copy, Debug, PartialEq, Eq)]
 pub struct State {
+    /// Which vertices there are, and what they read.
     pub vertex: VertexPart,
+    /// The vertex shader and rasterization.
     pub prerast: PrerastPart,
+    /// Where rasterization isn't discarded.
     pub fragment: Option<FragmentPart>,
+    /// Where rasterization isn't discarded.
     pub output: Option<OutputPart>,
 }

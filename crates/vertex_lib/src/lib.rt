@@ -3,7 +3,7 @@
 
 ghost use Rattle.std.specs.Prelude.{◌≡◌, ◌<◌, ◌≤◌, IfSome, ℕ, ◌+◌, ◌*◌, ◌^◌};
 ghost use Rattle.state_model.specs.Lawful.{IsVertexPart, IsVertexBinding, IsAttribute};
-ghost use Rattle.draw_model.specs.Fetch.{fetched, buffer_word, attribute_start, attribute_component, components};
+ghost use Rattle.draw_model.specs.Fetch.{input_at, buffer_word, attribute_start, attribute_component, components};
 
 use limits::{COMPONENTS, LOCATIONS, VERTEX_BINDINGS};
 use state_model::{Attribute, VertexBinding};
@@ -12,6 +12,7 @@ pub use state_model::{Buffers, VertexPart};
 /// A vertex input interface library.
 #[derive(Clone, Copy, Debug, PartialEq, Eq)]
 pub struct VertexLib {
+    /// The state that it has.
     pub part: VertexPart,
 }
 
@@ -23,14 +24,11 @@ impl VertexLib {
         VertexLib { part }
     }
 
-    /// What the vertex shader's input at `location` gets for a vertex of an instance (Vulkan, "Vertex Input
-    /// Address Calculation", in 32-bit words). `bound` names the buffer of each binding. A word past a buffer's end or
-    /// without a buffer is 0, and so are an attribute that is absent and the components that it lacks.
     /// The four words that the vertex shader's input at a location reads for a vertex of an instance, from the buffers that
     /// are bound by their numbers (Vulkan, "Vertex Input Address Calculation"). Strides and offsets are in 32-bit words. A
     /// word out of its buffer, or without a buffer, is 0, and so are the components that the attribute lacks and all four
     /// where there is no attribute.
-    #[tactic(auto, unfolding(draw_model::specs::Fetch::fetched))]
+    #[tactic(auto, unfolding(draw_model::specs::Fetch::input_at))]
     pub fn fetch(
         &self,
         buffers: &Buffers,
@@ -41,7 +39,7 @@ impl VertexLib {
     ) -> [u32; COMPONENTS]
         requires location { location < LOCATIONS }
         requires part { IsVertexPart self.now.part }
-        ensures { result ≡ fetched self.now.part buffers.now bound.now location vertex instance }
+        ensures { result ≡ input_at self.now.part buffers.now bound.now location vertex instance }
     {
         let Some(attribute) = self.part.attributes[usize::from(location)] else {
             return [0; COMPONENTS];
