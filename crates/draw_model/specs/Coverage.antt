@@ -37,26 +37,29 @@ pixel_centre x y = record { x = pos (SUBPIXELS * x + 128); y = pos (SUBPIXELS * 
 unfoldable pub edge_value : Position → Position → Position → ℤ
 edge_value p q at = (q.x -ℤ p.x) *ℤ (at.y -ℤ p.y) -ℤ (q.y -ℤ p.y) *ℤ (at.x -ℤ p.x)
 
--- whether a centre on the edge from p to q belongs to it: each edge that two triangles share is of one of them alone
-unfoldable pub owns_centres : Position → Position → Bool
-owns_centres p q = int_lt q.y p.y || (int_eq q.y p.y && int_lt p.x q.x)
+-- The top-left rule, for the edge from p to q of a triangle whose corners stand in the order of a positive area: a pixel's
+-- centre on the edge belongs to the triangle where the edge is a left one, with the triangle to its right, or a top one,
+-- horizontal and with the triangle below it. As y grows downwards, left edges run upwards and top edges to the right. Of
+-- two triangles on the two sides of an edge exactly one has the centres on it.
+unfoldable pub is_top_or_left : Position → Position → Bool
+is_top_or_left p q = int_lt q.y p.y || (int_eq q.y p.y && int_lt p.x q.x)
 
--- inside the edge from p to q, or on it where it owns its centres
+-- on the triangle's side of the edge from p to q, or on the edge by the top-left rule
 unfoldable pub is_inside : Position → Position → Position → Bool
-is_inside at p q = int_lt (pos 0) (edge_value p q at) || (int_eq (edge_value p q at) (pos 0) && owns_centres p q)
+is_inside at p q = int_lt (pos 0) (edge_value p q at) || (int_eq (edge_value p q at) (pos 0) && is_top_or_left p q)
 
 unfoldable pub is_inside_all : Position → Position → Position → Position → Bool
 is_inside_all at a b c = is_inside at a b && is_inside at b c && is_inside at c a
 
--- by the sign of S, twice the signed area: in either winding, and nothing where it is 0
+-- in either winding, by the sign of twice the signed area, and nothing where it is 0
 unfoldable pub triangle_covers : Position → Position → Position → Position → Bool
 triangle_covers a b c at =
     let area = edge_value a b c in
     if int_lt (pos 0) area then is_inside_all at a b c else (int_lt area (pos 0) && is_inside_all at a c b)
 
 -- whether a primitive with these corners covers the pixel
-unfoldable pub covered : Topology → List (List ℕ) → ℕ → ℕ → Bool
-covered Points corners x y = is_guarded (corner corners 0) && point_covers (corner corners 0) x y
-covered Triangles corners x y =
+unfoldable pub is_covered : Topology → List (List ℕ) → ℕ → ℕ → Bool
+is_covered Points corners x y = is_guarded (corner corners 0) && point_covers (corner corners 0) x y
+is_covered Triangles corners x y =
     is_guarded (corner corners 0) && is_guarded (corner corners 1) && is_guarded (corner corners 2)
     && triangle_covers (corner corners 0) (corner corners 1) (corner corners 2) (pixel_centre x y)

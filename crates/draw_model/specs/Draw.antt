@@ -7,7 +7,7 @@ use Rattle.stage_model.specs.declared.outcome.Kind.{Kind}
 use Rattle.stage_model.specs.declared.outcome.Kind.TheVariants.{Done, Killed, Lost}
 use Rattle.stage_model.specs.declared.outcome.Ended.{Ended}
 use Rattle.draw_model.specs.declared.target.Target.{Target}
-use Rattle.draw_model.specs.Coverage.{covered}
+use Rattle.draw_model.specs.Coverage.{is_covered}
 
 -- its sides are within the limit
 pub record HasLimitedSides (target : Target) : Type 0 where
@@ -33,7 +33,7 @@ colour_of fragment = slice_index (slice_index_or fragment.slots 0 []) 0
 -- the fragment of the point writes this pixel
 abbrev pub is_written : Ended → Ended → ℕ → ℕ → Bool
 is_written vertex fragment x y =
-    is_drawn vertex.kind && covered Points (vertex.position ∷ []) x y && writes fragment.kind
+    is_drawn vertex.kind && is_covered Points (vertex.position ∷ []) x y && writes fragment.kind
 
 -- what a pixel holds after the draw
 abbrev pub pixel_after : Ended → Ended → ℕ → ℕ → ℕ → ℕ

@@ -26,8 +26,8 @@ abbrev pub components : (ℕ → ℕ) → List ℕ
 components component = map component (range_with_len 0 COMPONENTS)
 
 -- what the vertex shader's input at the location gets, from the bound buffers by their numbers; zeros without an attribute
-unfoldable pub fetched : VertexPart → Buffers → List (Option ℕ) → ℕ → ℕ → ℕ → List ℕ
-fetched part buffers bound location vertex instance = option_map_or
+unfoldable pub input_at : VertexPart → Buffers → List (Option ℕ) → ℕ → ℕ → ℕ → List ℕ
+input_at part buffers bound location vertex instance = option_map_or
     (λ (a : Attribute). option_map_or
     (λ (b : VertexBinding). components (attribute_component buffers (present_at bound a.binding) a (attribute_start b a vertex instance)))
     (present_at part.bindings a.binding) (replicate COMPONENTS 0))

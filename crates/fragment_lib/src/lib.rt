@@ -4,13 +4,20 @@
 ghost use Rattle.std.specs.Prelude.{◌≡◌, ◌≤◌};
 ghost use Rattle.draw_model.specs.Pixel.{passes_depth};
 
+use state_model::vulkan::{
+    COMPARE_OP_ALWAYS, COMPARE_OP_EQUAL, COMPARE_OP_GREATER, COMPARE_OP_GREATER_OR_EQUAL,
+    COMPARE_OP_LESS, COMPARE_OP_LESS_OR_EQUAL, COMPARE_OP_NEVER, COMPARE_OP_NOT_EQUAL,
+};
 pub use state_model::{FragmentPart, Iface};
 
 /// A fragment shader library: its part, and its module's interface.
 #[derive(Clone, Copy, Debug, PartialEq, Eq)]
 pub struct FragmentLib {
+    /// The state that it has.
     pub part: FragmentPart,
+    /// What the fragment module reads.
     pub inputs: Iface,
+    /// What the fragment module writes.
     pub outputs: Iface,
 }
 
@@ -29,22 +36,22 @@ impl FragmentLib {
     }
 }
 
-/// Whether the comparison `compare`, a `VkCompareOp` from 0 (NEVER) to 7 (ALWAYS), holds of the new and the old depth,
-/// both signed (Vulkan, "Depth Test").
+/// Whether the comparison holds of the new and the old depth, both signed (Vulkan, "Depth Test"). `compare` is one of
+/// the `COMPARE_OP`s of `state_model::vulkan`.
 pub fn depth_passes(compare: u8, new: u32, old: u32) -> bool
-    requires { compare ≤ 7 }
+    requires { compare ≤ COMPARE_OP_ALWAYS }
     ensures { result ≡ passes_depth compare new old }
 {
     let new = new.cast_signed();
     let old = old.cast_signed();
     match compare {
-        0 => false,
-        1 => new < old,
-        2 => new == old,
-        3 => new <= old,
-        4 => new > old,
-        5 => new != old,
-        6 => new >= old,
+        COMPARE_OP_NEVER => false,
+        COMPARE_OP_LESS => new < old,
+        COMPARE_OP_EQUAL => new == old,
+        COMPARE_OP_LESS_OR_EQUAL => new <= old,
+        COMPARE_OP_GREATER => new > old,
+        COMPARE_OP_NOT_EQUAL => new != old,
+        COMPARE_OP_GREATER_OR_EQUAL => new >= old,
         _ => true,
     }
 }

@@ -1,3 +1,4 @@
+use limits::KEY_WORDS;
 use trace_text::{Serve, TraceFault};
 
 /// How a run ended.
@@ -17,7 +18,7 @@ pub struct Report {
     /// By recorder, then draw: one for each draw that linked.
     pub serves: Vec<Serve>,
     /// The key of each instance, by row.
-    pub rows: Vec<[u64; 56]>,
+    pub rows: Vec<[u64; KEY_WORDS]>,
     /// By row, the record of its optimised modules, where there is one.
     pub units: Vec<Option<Vec<u32>>>,
 }

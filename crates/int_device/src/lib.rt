@@ -3,7 +3,7 @@
 
 ghost use Rattle.std.specs.Prelude.{◌≡◌, ◌<◌, [], ◌∷◌, ◌++◌, IfOk, OnOk};
 ghost use Rattle.state_model.specs.declared.parts.Topology.TheVariants.{Points};
-ghost use Rattle.draw_model.specs.Coverage.{covered};
+ghost use Rattle.draw_model.specs.Coverage.{is_covered};
 ghost use Rattle.draw_model.specs.Draw.{HasLimitedSides, is_drawn, writes, pixel_after, row_after, image};
 
 pub use draw_model::Target;
@@ -40,7 +40,8 @@ fn push_row(
 ) -> Result<(), Memory>
     requires sides { HasLimitedSides target.now }
     requires row { y < target.now.height }
-    ensures { OnOk result (words.new.items ≡ words.old.items ++ row_after vertex.now fragment.now target.now y) }
+    ensures { let row = row_after vertex.now fragment.now target.now y in
+        OnOk result (words.new.items ≡ words.old.items ++ row) }
 {
     for x in 0..target.width {
         words.push(pixel_after(vertex, fragment, target.clear, y, x))?;
@@ -60,11 +61,11 @@ fn pixel_after(vertex: &Ended, fragment: &Ended, old: u32, y: u32, x: u32) -> u3
     }
 }
 
-#[tactic(auto, unfolding(draw_model::specs::Coverage::covered))]
+#[tactic(auto, unfolding(draw_model::specs::Coverage::is_covered))]
 fn covers_point(position: [u32; COMPONENTS], x: u32, y: u32) -> bool
     requires x { x < MAX_SIDE }
     requires y { y < MAX_SIDE }
-    ensures { result ≡ covered Points (position ∷ []) x y }
+    ensures { result ≡ is_covered Points (position ∷ []) x y }
 {
     // For points only the first corner counts.
     covers(Topology::Points, &[position; 3], x, y)

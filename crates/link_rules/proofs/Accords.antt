@@ -5,19 +5,19 @@ use Rattle.std.specs.Option.{option_map, option_to_list}
 use Rattle.std.proofs.lemmas.Bool.Decides.{nat_tests}
 use Rattle.std.proofs.lemmas.List.Elements.{All-head}
 use Rattle.state_model.specs.Lawful.{IsLawful, IsVertexPart, IsPrerastPart, IsFragmentPart, IsOutputPart}
-use Rattle.state_model.specs.Link.{Libraries, PrerastLibrary, FragmentLibrary, refuses, refuses_contents, fails, lacks_subset, repeats_subset, has_unused_subset, view_masks_differ, multisample_differs, differ, differ_multisample, is_given, some_pair}
+use Rattle.state_model.specs.Link.{Libraries, PrerastLibrary, FragmentLibrary, failed_rule, failed_content_rule, rule_if, lacks_subset, repeats_subset, has_unused_subset, view_masks_differ, multisample_differs, differ, differ_multisample, is_given, some_pair}
 use Rattle.state_model.specs.declared.rule.Rule.{Rule}
 use Rattle.state_model.specs.declared.parts.Multisample.{Multisample}
 use Rattle.state_model.specs.declared.parts.OutputPart.{OutputPart}
 use Rattle.fragment_lib.specs.declared.FragmentLib.{FragmentLib}
 use Rattle.output_lib.specs.declared.OutputLib.{OutputLib}
-use Rattle.link_rules.specs.declared.one.One.{One}
-use Rattle.link_rules.specs.One.{libraries_of_one, state_of_one, prerast_library, fragment_library}
+use Rattle.link_rules.specs.declared.contents.SingleLibs.{SingleLibs}
+use Rattle.link_rules.specs.Single.{libraries_of_single, state_of_single, prerast_library, fragment_library}
 use Rattle.link_rules.specs.Parts.{HoldsLawfulParts}
 use Rattle.link_rules.proofs.Lists.{or_parts}
 
-passes : (b : Bool) (rule : Rule) (later : Option Rule) → fails b rule later ≡ None → (b ≡ false) × (later ≡ None)
-unfolding fails
+passes : (b : Bool) (rule : Rule) (later : Option Rule) → rule_if b rule later ≡ None → (b ≡ false) × (later ≡ None)
+unfolding rule_if
 passes true rule later e = cc
 passes false rule later e = (refl, e)
 
@@ -29,9 +29,9 @@ pub record Passes (libs : Libraries) : Type 0 where
   pub views : view_masks_differ libs ≡ false
   pub samples : multisample_differs libs ≡ false
 
-pub Passes-from_refuses : (libs : Libraries) (optimise : Bool) → refuses libs optimise ≡ None → Passes libs
-unfolding refuses refuses_contents
-Passes-from_refuses libs optimise e =
+pub Passes-from_no_failed_rule : (libs : Libraries) (optimise : Bool) → failed_rule libs optimise ≡ None → Passes libs
+unfolding failed_rule failed_content_rule
+Passes-from_no_failed_rule libs optimise e =
     let l1 = passes _ _ _ e in
     let l2 = passes _ _ _ l1.1 in
     let l3 = passes _ _ _ l2.1 in
@@ -126,10 +126,10 @@ lawful_output : (o : Option OutputLib) → All IsOutputPart (outputs o) → IfSo
 lawful_output None h = tt
 lawful_output (Some o) h = All-head IsOutputPart o.part [] h
 
-pub IsLawful-from_links : (one : One) → refuses (libraries_of_one one) false ≡ None → HoldsLawfulParts (libraries_of_one one) → IsLawful (state_of_one one)
+pub IsLawful-from_links : (one : SingleLibs) → failed_rule (libraries_of_single one) false ≡ None → HoldsLawfulParts (libraries_of_single one) → IsLawful (state_of_single one)
 unfolding lacks_subset has_unused_subset view_masks_differ multisample_differs
 IsLawful-from_links one links parts =
-    let passed = Passes-from_refuses (libraries_of_one one) false links in
+    let passed = Passes-from_no_failed_rule (libraries_of_single one) false links in
     let there = both_there one.prerast.part.discard one.fragment one.output passed.whole passed.used in
     let views = same_views one.prerast.part.view_mask one.fragment one.output passed.views in
     record {

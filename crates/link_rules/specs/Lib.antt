@@ -1,3 +1,3 @@
 pub mod Libs
-pub mod One
+pub mod Single
 pub mod Parts

@@ -1,7 +1,7 @@
 -- The libraries that `Libs` holds.
 use Rattle.std.specs.Prelude.{map}
 use Rattle.state_model.specs.Link.{Libraries}
-use Rattle.link_rules.specs.One.{prerast_library, fragment_library}
+use Rattle.link_rules.specs.Single.{prerast_library, fragment_library}
 use Rattle.link_rules.specs.declared.Libs.{Libs}
 
 abbrev pub libraries : Libs → Libraries

@@ -2,12 +2,13 @@
 ghost use Rattle.std.specs.Prelude.{◌≡◌, false};
 ghost use Rattle.state_model.specs.Link.{lacks_subset, repeats_subset};
 ghost use Rattle.link_rules.specs.Libs.{libraries};
-ghost use Rattle.link_rules.specs.One.{libraries_of_one};
+ghost use Rattle.link_rules.specs.Single.{libraries_of_single};
 
 use crate::Libs;
-use crate::one::One;
+use crate::contents::SingleLibs;
 
 #[tactic(auto, unfolding(state_model::specs::Link::lacks_subset))]
+/// Whether a subset that the pipeline needs isn't given.
 pub fn lacks_subset(libs: &Libs) -> bool
     ensures { result ≡ lacks_subset (libraries libs.now) }
 {
@@ -17,6 +18,7 @@ pub fn lacks_subset(libs: &Libs) -> bool
 }
 
 #[tactic(auto, unfolding(state_model::specs::Link::repeats_subset))]
+/// Whether a subset is given more than once.
 pub fn repeats_subset(libs: &Libs) -> bool
     ensures { result ≡ repeats_subset (libraries libs.now) }
 {
@@ -28,12 +30,12 @@ pub fn repeats_subset(libs: &Libs) -> bool
 
 /// The one library of each subset.
 #[tactic(auto, unfolding(state_model::specs::Link::lacks_subset, state_model::specs::Link::repeats_subset))]
-pub fn one_of(libs: &Libs) -> One
+pub fn single_of(libs: &Libs) -> SingleLibs
     requires lacks_none { lacks_subset (libraries libs.now) ≡ false }
     requires repeats_none { repeats_subset (libraries libs.now) ≡ false }
-    ensures { libraries libs.now ≡ libraries_of_one result }
+    ensures { libraries libs.now ≡ libraries_of_single result }
 {
-    One {
+    SingleLibs {
         vertex: libs.vertex[0],
         prerast: libs.prerast[0],
         fragment: libs.fragment.first().copied(),

@@ -1,12 +1,13 @@
 //! Which pipeline libraries link, and the state that they make.
 #![tactic(auto)]
 
-pub mod counts;
-pub mod one;
+mod contents;
+mod counts;
 
-ghost use Rattle.std.specs.Prelude.{◌≡◌, false, None, Some, MatchResult};
+ghost use Rattle.std.specs.Prelude.{◌≡◌, Some};
+ghost use Rattle.std.specs.Result.{result_err};
 ghost use Rattle.state_model.specs.Lawful.{IsLawful};
-ghost use Rattle.state_model.specs.Link.{refuses, linked_state};
+ghost use Rattle.state_model.specs.Link.{failed_rule, Links, linked_state};
 
 pub use fragment_lib::FragmentLib;
 pub use output_lib::OutputLib;
@@ -17,9 +18,13 @@ pub use vertex_lib::VertexLib;
 /// The libraries that a pipeline is given, by subset.
 #[derive(Debug, Drop)]
 pub struct Libs {
+    /// Vertex input interfaces.
     pub vertex: Vec<VertexLib>,
+    /// Pre-rasterization shaders.
     pub prerast: Vec<PrerastLib>,
+    /// Fragment shaders.
     pub fragment: Vec<FragmentLib>,
+    /// Fragment output interfaces.
     pub output: Vec<OutputLib>,
 }
 
@@ -29,21 +34,19 @@ ghost use Rattle.link_rules.specs.Parts.{HoldsLawfulParts};
 impl Libs {
     /// The state that linked libraries make: each subset's part.
     pub fn state(&self) -> State
-        requires links { refuses (libraries self.now) false ≡ None }
+        requires links { Links (libraries self.now) }
         requires parts { HoldsLawfulParts (libraries self.now) }
         ensures parts { linked_state (libraries self.now) ≡ Some result }
         ensures lawful { IsLawful result }
     {
-        one::state_of_one(&counts::one_of(self))
+        contents::state_of_single(&counts::single_of(self))
     }
 }
 
 /// Whether the libraries link, or the first rule, by number, that fails. L10 counts for an optimized link alone.
-#[tactic(auto, unfolding(state_model::specs::Link::refuses, state_model::specs::Link::fails))]
+#[tactic(auto, unfolding(state_model::specs::Link::failed_rule, state_model::specs::Link::rule_if))]
 pub fn link(libs: &Libs, optimise: bool) -> Result<(), Rule>
-    ensures { MatchResult result
-        (λ _. refuses (libraries libs.now) optimise ≡ None)
-        (λ rule. refuses (libraries libs.now) optimise ≡ Some rule) }
+    ensures { result_err result ≡ failed_rule (libraries libs.now) optimise }
 {
     if counts::lacks_subset(libs) {
         return Err(Rule::L1);
@@ -51,7 +54,7 @@ pub fn link(libs: &Libs, optimise: bool) -> Result<(), Rule>
     if counts::repeats_subset(libs) {
         return Err(Rule::L2);
     }
-    one::link_contents(&counts::one_of(libs), optimise)
+    contents::link_contents(&counts::single_of(libs), optimise)
 }
 
 #[cfg(test)]

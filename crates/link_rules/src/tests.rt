@@ -1,7 +1,8 @@
 use super::*;
+use limits::{ATTACHMENTS, DESCRIPTOR_SETS, ENTRIES, LOCATIONS, VERTEX_BINDINGS};
 use state_model::{
-    ATTACHMENTS, Attachment, BINDINGS, ENTRIES, FragmentPart, Iface, LOCATIONS, Layout,
-    Multisample, OutputPart, PrerastPart, SETS, SpecValues, Topology, VertexPart,
+    Attachment, FragmentPart, Iface, Layout, Multisample, OutputPart, PrerastPart, SpecValues,
+    Topology, VertexPart,
 };
 use std::alloc::{AllocError, Global};
 use std::test::Fail;
@@ -14,7 +15,7 @@ const NO_SLOTS: Iface = Iface {
     slots: [None; LOCATIONS],
 };
 
-fn layout(independent: bool, sets: [Option<u8>; SETS]) -> Layout {
+fn layout(independent: bool, sets: [Option<u8>; DESCRIPTOR_SETS]) -> Layout {
     Layout {
         independent,
         push_words: 0,
@@ -26,7 +27,7 @@ fn vertex() -> VertexLib {
     VertexLib::new(VertexPart {
         retain: true,
         topology: Topology::Points,
-        bindings: [None; BINDINGS],
+        bindings: [None; VERTEX_BINDINGS],
         attributes: [None; LOCATIONS],
     })
 }
@@ -99,7 +100,7 @@ fn layouts_and_numbers(rt: HostRuntime) -> Result<(), Fail> {
     let first = layout(true, [Some(1), None, None, None]);
     let second = layout(true, [None, Some(1), None, None]);
     let bound = layout(false, [Some(1), None, None, None]);
-    let bare = layout(false, [None; SETS]);
+    let bare = layout(false, [None; DESCRIPTOR_SETS]);
     let cases = [
         (1, first, second, Ok(())),
         (1, first, bound, Err(Rule::L4)),

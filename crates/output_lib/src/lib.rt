@@ -3,14 +3,21 @@
 
 ghost use Rattle.std.specs.Prelude.{◌≡◌, ◌≤◌};
 ghost use Rattle.std.specs.Option.{ForSome};
-ghost use Rattle.draw_model.specs.Pixel.{logic_result, stored_pixel, written};
+ghost use Rattle.draw_model.specs.Pixel.{logic_result, stored_pixel, written_component};
 
 use limits::COMPONENTS;
 pub use state_model::OutputPart;
+use state_model::vulkan::{
+    LOGIC_OP_AND, LOGIC_OP_AND_INVERTED, LOGIC_OP_AND_REVERSE, LOGIC_OP_CLEAR, LOGIC_OP_COPY,
+    LOGIC_OP_COPY_INVERTED, LOGIC_OP_EQUIVALENT, LOGIC_OP_INVERT, LOGIC_OP_NAND, LOGIC_OP_NO_OP,
+    LOGIC_OP_NOR, LOGIC_OP_OR, LOGIC_OP_OR_INVERTED, LOGIC_OP_OR_REVERSE, LOGIC_OP_SET,
+    LOGIC_OP_XOR,
+};
 
 /// A fragment output interface library.
 #[derive(Clone, Copy, Debug, PartialEq, Eq)]
 pub struct OutputLib {
+    /// The state that it has.
     pub part: OutputPart,
 }
 
@@ -23,36 +30,36 @@ impl OutputLib {
     }
 }
 
-/// The logic operation `op`, a `VkLogicOp` from 0 (CLEAR) to 15 (SET), of the source `s` and the destination `d`
-/// (Vulkan, "Logical Operations").
+/// The logic operation of the source `s` and the destination `d` (Vulkan, "Logical Operations"). `op` is one of the
+/// `LOGIC_OP`s of `state_model::vulkan`.
 pub fn logic(op: u8, s: u32, d: u32) -> u32
-    requires { op ≤ 15 }
+    requires { op ≤ LOGIC_OP_SET }
     ensures { result ≡ logic_result op s d }
 {
     match op {
-        0 => 0,
-        1 => s & d,
-        2 => s & !d,
-        3 => s,
-        4 => !s & d,
-        5 => d,
-        6 => s ^ d,
-        7 => s | d,
-        8 => !(s | d),
-        9 => !(s ^ d),
-        10 => !d,
-        11 => s | !d,
-        12 => !s,
-        13 => !s | d,
-        14 => !(s & d),
+        LOGIC_OP_CLEAR => 0,
+        LOGIC_OP_AND => s & d,
+        LOGIC_OP_AND_REVERSE => s & !d,
+        LOGIC_OP_COPY => s,
+        LOGIC_OP_AND_INVERTED => !s & d,
+        LOGIC_OP_NO_OP => d,
+        LOGIC_OP_XOR => s ^ d,
+        LOGIC_OP_OR => s | d,
+        LOGIC_OP_NOR => !(s | d),
+        LOGIC_OP_EQUIVALENT => !(s ^ d),
+        LOGIC_OP_INVERT => !d,
+        LOGIC_OP_OR_REVERSE => s | !d,
+        LOGIC_OP_COPY_INVERTED => !s,
+        LOGIC_OP_OR_INVERTED => !s | d,
+        LOGIC_OP_NAND => !(s & d),
         _ => u32::MAX,
     }
 }
 
 // What is written for one component: without an operation the source.
 fn written_word(op: Option<u8>, s: u32, d: u32) -> u32
-    requires { ForSome op (λ op. op ≤ 15) }
-    ensures { result ≡ written op s d }
+    requires { ForSome op (λ op. op ≤ LOGIC_OP_SET) }
+    ensures { result ≡ written_component op s d }
 {
     match op {
         Some(op) => logic(op, s, d),
@@ -68,7 +75,7 @@ pub fn store_pixel(
     s: [u32; COMPONENTS],
     d: [u32; COMPONENTS],
 ) -> [u32; COMPONENTS]
-    requires { ForSome op (λ op. op ≤ 15) }
+    requires { ForSome op (λ op. op ≤ LOGIC_OP_SET) }
     ensures { result ≡ stored_pixel op mask s d }
 {
     let mut pixel = [0; COMPONENTS];

@@ -1,6 +1,6 @@
 ghost use Rattle.std.specs.Prelude.{◌≡◌, ◌<◌, ◌↔◌, IsTrue, ◌*ℤ◌, ◌-ℤ◌, ℤ};
 ghost use Rattle.prerast_lib.specs.Guarded.{IsGuarded, IsWithinBand, IsDistance, IsProduct};
-ghost use Rattle.draw_model.specs.Coverage.{covered, corner_position, is_guarded, lies_in, point_covers, pixel_centre, edge_value, owns_centres, is_inside, is_inside_all, triangle_covers};
+ghost use Rattle.draw_model.specs.Coverage.{is_covered, corner_position, is_guarded, lies_in, point_covers, pixel_centre, edge_value, is_top_or_left, is_inside, is_inside_all, triangle_covers};
 
 use draw_model::Position;
 use limits::{COMPONENTS, GUARD_BAND, MAX_SIDE, SUBPIXELS};
@@ -9,11 +9,11 @@ use state_model::Topology;
 /// Whether a primitive covers the pixel (`x`, `y`) (Vulkan, "Basic Point Rasterization", "Basic Polygon
 /// Rasterization"). The corners are words x, y, z, w with x and y signed, in 1/256 pixel. For points only corner 0
 /// counts. Where a corner that counts is outside the guard band, and for a triangle without area, nothing is covered.
-#[tactic(auto, unfolding(draw_model::specs::Coverage::covered))]
+#[tactic(auto, unfolding(draw_model::specs::Coverage::is_covered))]
 pub fn covers(topology: Topology, corners: &[[u32; COMPONENTS]; 3], x: u32, y: u32) -> bool
     requires x { x < MAX_SIDE }
     requires y { y < MAX_SIDE }
-    ensures { result ≡ covered topology corners.now x y }
+    ensures { result ≡ is_covered topology corners.now x y }
 {
     let a = position_of(&corners[0]);
     match topology {
@@ -114,11 +114,10 @@ fn edge_value(p: Position, q: Position, at: Position) -> i64
     )
 }
 
-// Of the centres on an edge, the edge to the right and the edge upwards have theirs: so one of two triangles that share an
-// edge has them.
-#[tactic(auto, unfolding(draw_model::specs::Coverage::owns_centres))]
-fn owns_centres(p: Position, q: Position) -> bool
-    ensures { result ≡ owns_centres p q }
+// Whether the centres on the edge from p to q are the triangle's, by the top-left rule.
+#[tactic(auto, unfolding(draw_model::specs::Coverage::is_top_or_left))]
+fn is_top_or_left(p: Position, q: Position) -> bool
+    ensures { result ≡ is_top_or_left p q }
 {
     q.y < p.y || (q.y == p.y && p.x < q.x)
 }
@@ -131,7 +130,7 @@ fn is_inside(at: Position, p: Position, q: Position) -> bool
     ensures { result ≡ is_inside at p q }
 {
     let value = edge_value(p, q, at);
-    0 < value || (value == 0 && owns_centres(p, q))
+    0 < value || (value == 0 && is_top_or_left(p, q))
 }
 
 #[tactic(auto, unfolding(draw_model::specs::Coverage::is_inside_all))]

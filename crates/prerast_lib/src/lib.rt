@@ -12,8 +12,11 @@ pub use state_model::{Iface, PrerastPart, Topology};
 /// A pre-rasterization shaders library: its part, and its module's interface.
 #[derive(Clone, Copy, Debug, PartialEq, Eq)]
 pub struct PrerastLib {
+    /// The state that it has.
     pub part: PrerastPart,
+    /// What the vertex module reads.
     pub inputs: Iface,
+    /// What the vertex module writes.
     pub outputs: Iface,
 }
 

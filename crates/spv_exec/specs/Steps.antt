@@ -5,7 +5,7 @@ use Rattle.std.specs.Ordering.{nat_cmp}
 use Rattle.std.specs.BTreeMap.{BTreeMap, get}
 use Rattle.stage_model.specs.declared.outcome.Kind.{Kind}
 use Rattle.stage_model.specs.declared.outcome.Kind.TheVariants.{Done}
-use Rattle.stage_model.specs.declared.outcome.TheConstants.{COMPONENTS}
+use Rattle.limits.specs.declared.TheConstants.{COMPONENTS}
 use Rattle.stage_model.specs.Value.{Memory}
 use Rattle.stage_model.specs.Machine.{Machine, Step, Goes, Ends, passed}
 use Rattle.spv_exec.specs.declared.block.Ran.{Ran}

@@ -7,8 +7,8 @@ ghost use Rattle.spv_exec.specs.Views.{Holds};
 ghost use Rattle.spv_exec.specs.Steps.{HoldsWords, Follows, EndsAs};
 
 use crate::values::Value;
+use limits::COMPONENTS;
 use spirv_model::{Inst, op};
-use stage_model::COMPONENTS;
 use std::alloc::{AllocError, Global};
 use std::collections::BTreeMap;
 

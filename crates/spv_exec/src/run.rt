@@ -8,8 +8,9 @@ ghost use Rattle.spv_exec.specs.Steps.{HoldsWords};
 use crate::Memory;
 use crate::block::run_block;
 use crate::values::defined_by;
-use spirv_model::{Inst, builtin, storage_class, decoration, op};
-use stage_model::{COMPONENTS, Ended, Kind, LOCATIONS};
+use limits::{COMPONENTS, LOCATIONS};
+use spirv_model::{Inst, builtin, decoration, op, storage_class};
+use stage_model::{Ended, Kind};
 use std::alloc::Global;
 use std::collections::BTreeMap;
 

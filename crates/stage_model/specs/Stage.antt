@@ -10,7 +10,7 @@ use Rattle.spirv_model.specs.declared.builtin.TheConstants.{POSITION}
 use Rattle.stage_model.specs.declared.outcome.Kind.{Kind}
 use Rattle.stage_model.specs.declared.outcome.Kind.TheVariants.{Done, Killed, Lost}
 use Rattle.stage_model.specs.declared.outcome.Ended.{Ended}
-use Rattle.stage_model.specs.declared.outcome.TheConstants.{LOCATIONS, COMPONENTS}
+use Rattle.limits.specs.declared.TheConstants.{LOCATIONS, COMPONENTS}
 use Rattle.stage_model.specs.Value.{Memory, zeros}
 use Rattle.stage_model.specs.Machine.{Machine, first_label, start_at, run}
 

@@ -3,4 +3,4 @@
 
 mod outcome;
 
-pub use outcome::{COMPONENTS, Ended, Kind, LOCATIONS};
+pub use outcome::{Ended, Kind};

@@ -1,8 +1,4 @@
-/// Input and output locations are 0 to 7.
-pub const LOCATIONS: usize = 8;
-
-/// A position, and what is at a location, has four components.
-pub const COMPONENTS: usize = 4;
+use limits::{COMPONENTS, LOCATIONS};
 
 /// How an invocation ended.
 #[derive(Clone, Copy, Debug, Drop, PartialEq, Eq)]
@@ -20,9 +16,9 @@ pub enum Kind {
 pub struct Ended {
     pub kind: Kind,
     /// The words of the output variable with the built-in Position; zeros without one.
-    pub position: [u32; 4],
+    pub position: [u32; COMPONENTS],
     /// By location, the words of the output variable there; zeros where there is none, and in the components that it lacks.
-    pub slots: [[u32; 4]; 8],
+    pub slots: [[u32; COMPONENTS]; LOCATIONS],
     /// How many instructions were run.
     pub work: u64,
 }

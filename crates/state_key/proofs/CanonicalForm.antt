@@ -7,7 +7,7 @@ use Rattle.std.proofs.lemmas.List.Elements.{Contains-get_or}
 use Rattle.std.proofs.lemmas.List.FromFn.{length-map-range_with_len, get_or-map-range_with_len}
 use Rattle.state_model.specs.Lawful.{present_at, AllPresent, IsVertexBinding, IsVertexPart}
 use Rattle.state_model.specs.Canonical.{is_named, IsCanonicalVertex, canonical_vertex}
-use Rattle.state_model.specs.declared.TheConstants.{BINDINGS}
+use Rattle.limits.specs.declared.TheConstants.{VERTEX_BINDINGS}
 use Rattle.state_model.specs.declared.parts.VertexBinding.{VertexBinding}
 use Rattle.state_model.specs.declared.parts.Attribute.{Attribute}
 use Rattle.state_model.specs.declared.parts.VertexPart.{VertexPart}
@@ -45,23 +45,23 @@ module _ (v : VertexPart) (lawful : IsVertexPart v) where
   kept number = if is_named v.attributes number then present_at v.bindings number else None
 
   abbrev pub kept_bindings : List (Option VertexBinding)
-  kept_bindings = map kept (range_with_len 0 BINDINGS)
+  kept_bindings = map kept (range_with_len 0 VERTEX_BINDINGS)
 
-  kept_length : length kept_bindings ≡ BINDINGS
-  kept_length = length-map-range_with_len kept 0 BINDINGS
+  kept_length : length kept_bindings ≡ VERTEX_BINDINGS
+  kept_length = length-map-range_with_len kept 0 VERTEX_BINDINGS
 
-  kept_at : (n : ℕ) → n < BINDINGS → present_at kept_bindings n ≡ kept n
-  kept_at n within = present_at-get_or kept_bindings n None (omega (arith, kept_length)) ∙ get_or-map-range_with_len kept 0 BINDINGS n n None within (omega arith)
+  kept_at : (n : ℕ) → n < VERTEX_BINDINGS → present_at kept_bindings n ≡ kept n
+  kept_at n within = present_at-get_or kept_bindings n None (omega (arith, kept_length)) ∙ get_or-map-range_with_len kept 0 VERTEX_BINDINGS n n None within (omega arith)
 
   -- past the bindings there is none before and after
   pub kept_everywhere : (n : ℕ) → present_at kept_bindings n ≡ kept n
-  kept_everywhere n = by_cases (cases_lt n BINDINGS)
+  kept_everywhere n = by_cases (cases_lt n VERTEX_BINDINGS)
     where
       none : (b : Bool) → present_at v.bindings n ≡ None → None ≡ (if b then present_at v.bindings n else None)
       none true e = sym e
       none false e = refl
 
-      by_cases : (n < BINDINGS) ⊎ (BINDINGS ≤ n) → present_at kept_bindings n ≡ kept n
+      by_cases : (n < VERTEX_BINDINGS) ⊎ (VERTEX_BINDINGS ≤ n) → present_at kept_bindings n ≡ kept n
       by_cases (inl p) = kept_at n p
       by_cases (inr q) =
           present_past kept_bindings n (omega (arith, kept_length)) ∙ none (is_named v.attributes n) (present_past v.bindings n (omega (arith, lawful.binding_count)))
@@ -88,8 +88,8 @@ module _ (v : VertexPart) (lawful : IsVertexPart v) where
 
   lawful_bindings : AllPresent IsVertexBinding kept_bindings
   lawful_bindings k d within =
-      let inside : k < BINDINGS = omega (arith, kept_length) in
-      subst (λ o. IfSome o IsVertexBinding) (sym (get_or-map-range_with_len kept 0 BINDINGS k k d inside (omega arith)))
+      let inside : k < VERTEX_BINDINGS = omega (arith, kept_length) in
+      subst (λ o. IfSome o IsVertexBinding) (sym (get_or-map-range_with_len kept 0 VERTEX_BINDINGS k k d inside (omega arith)))
       (stride_kept (is_named v.attributes k) (present_at v.bindings k)
       (subst (λ o. IfSome o IsVertexBinding) (sym (present_at-get_or v.bindings k d (omega (arith, lawful.binding_count)))) (lawful.bindings k d (omega (arith, lawful.binding_count)))))
 

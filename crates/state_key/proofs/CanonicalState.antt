@@ -9,7 +9,8 @@ use Rattle.std.proofs.lemmas.List.FromFn.{fill_by_all}
 use Rattle.std.proofs.lemmas.List.Sorted.{IsPermutation-refl}
 use Rattle.state_model.specs.Lawful.{present_at, AllPresent, HaveDifferentIds, IsEntry, IsSpecValues, IsVertexPart, IsPrerastPart, IsFragmentPart, IsOutputPart, IsLawful}
 use Rattle.state_model.specs.Canonical.{Precedes, AreInOrder, is_named, IsCanonicalPrerast, IsCanonicalFragment, IsCanonicalOutput, IsCanonicalOf, BothOrNeither, IsTidy, if_declared, in_order, entry_rank, canonical_entries, canonical_prerast, canonical_fragment, canonical_output, without_copy, canonical}
-use Rattle.state_model.specs.declared.TheConstants.{BINDINGS, COPY}
+use Rattle.limits.specs.declared.TheConstants.{VERTEX_BINDINGS}
+use Rattle.state_model.specs.declared.vulkan.TheConstants.{LOGIC_OP_COPY}
 use Rattle.state_model.specs.declared.parts.Topology.{Topology}
 use Rattle.state_model.specs.declared.parts.Topology.TheVariants.{Points, Triangles}
 use Rattle.state_model.specs.declared.parts.VertexBinding.{VertexBinding}
@@ -45,9 +46,9 @@ canonical_prerast_is ids Triangles p h = record {
 canonical_fragment_is : (ids : List ℕ) (f : FragmentPart) → IsFragmentPart f → IsCanonicalFragment ids f (canonical_fragment ids f)
 canonical_fragment_is ids f h = record { entries = keeps_declared ids f.entries h.entries; multisample = refl; rest = refl }
 
-copy_gone : (logic : Option ℕ) → logic ≡ Some COPY → IsNone (without_copy logic)
+copy_gone : (logic : Option ℕ) → logic ≡ Some LOGIC_OP_COPY → IsNone (without_copy logic)
 copy_gone None e = refl
-copy_gone (Some op) e = by_test (op == COPY) (same_number op COPY (number_in op COPY e))
+copy_gone (Some op) e = by_test (op == LOGIC_OP_COPY) (same_number op LOGIC_OP_COPY (number_in op LOGIC_OP_COPY e))
   where
     number_in : (a b : ℕ) → ◌≡◌ {A = Option ℕ} (Some a) (Some b) → a ≡ b
     number_in a b e = cc
@@ -56,12 +57,12 @@ copy_gone (Some op) e = by_test (op == COPY) (same_number op COPY (number_in op 
     by_test true e = refl
     by_test false e = cc
 
-others_stay : (logic : Option ℕ) → logic ≢ Some COPY → without_copy logic ≡ logic
+others_stay : (logic : Option ℕ) → logic ≢ Some LOGIC_OP_COPY → without_copy logic ≡ logic
 others_stay None h = refl
-others_stay (Some op) h = by_test (op == COPY) refl
+others_stay (Some op) h = by_test (op == LOGIC_OP_COPY) refl
   where
-    by_test : (b : Bool) → (op == COPY) ≡ b → (if b then None else Some op) ≡ Some op
-    by_test true e = absurd (h (ap (λ n. Some n) (number_same op COPY e)))
+    by_test : (b : Bool) → (op == LOGIC_OP_COPY) ≡ b → (if b then None else Some op) ≡ Some op
+    by_test true e = absurd (h (ap (λ n. Some n) (number_same op LOGIC_OP_COPY e)))
     by_test false e = refl
 
 canonical_output_is : (o : OutputPart) → IsCanonicalOutput o (canonical_output o)
@@ -110,7 +111,7 @@ lawful_fragment ids (Some f) h = record { module_number = h.module_number; layou
 
 lawful_logic : (logic : Option ℕ) → IfSome logic (λ op. op ≤ 15) → IfSome (without_copy logic) (λ op. op ≤ 15)
 lawful_logic None h = tt
-lawful_logic (Some op) h = by_test (op == COPY)
+lawful_logic (Some op) h = by_test (op == LOGIC_OP_COPY)
   where
     by_test : (b : Bool) → IfSome (if b then None else Some op) (λ op. op ≤ 15)
     by_test true = tt
@@ -179,9 +180,9 @@ sampleless : (ids : List ℕ) (f : Option FragmentPart) → IfSome (option_map (
 sampleless ids None = tt
 sampleless ids (Some f) = refl
 
-no_copy : (logic : Option ℕ) → without_copy logic ≢ Some COPY
+no_copy : (logic : Option ℕ) → without_copy logic ≢ Some LOGIC_OP_COPY
 no_copy None e = cc
-no_copy (Some op) e = by_test (op == COPY) refl e
+no_copy (Some op) e = by_test (op == LOGIC_OP_COPY) refl e
   where
     number_in : (a b : ℕ) → ◌≡◌ {A = Option ℕ} (Some a) (Some b) → a ≡ b
     number_in a b e = cc
@@ -189,11 +190,11 @@ no_copy (Some op) e = by_test (op == COPY) refl e
     absurd_test : (a : Bool) → a ≡ true → a ≡ false → ⊥
     absurd_test a p q = cc
 
-    by_test : (b : Bool) → (op == COPY) ≡ b → (if b then None else Some op) ≡ Some COPY → ⊥
+    by_test : (b : Bool) → (op == LOGIC_OP_COPY) ≡ b → (if b then None else Some op) ≡ Some LOGIC_OP_COPY → ⊥
     by_test true t e = cc
-    by_test false t e = absurd_test (op == COPY) (same_number op COPY (number_in op COPY e)) t
+    by_test false t e = absurd_test (op == LOGIC_OP_COPY) (same_number op LOGIC_OP_COPY (number_in op LOGIC_OP_COPY e)) t
 
-copyless : (o : Option OutputPart) → IfSome (option_map canonical_output o) (λ o. o.logic ≢ Some COPY)
+copyless : (o : Option OutputPart) → IfSome (option_map canonical_output o) (λ o. o.logic ≢ Some LOGIC_OP_COPY)
 copyless None = tt
 copyless (Some o) = no_copy o.logic
 
@@ -248,7 +249,7 @@ same_entries ids v h order declared = ap made (sym sorted)
     sorted = sorted_is_in_order ids v h v.entries (subst (λ xs. IsPermutation xs v.entries) whole (IsPermutation-refl v.entries)) (ranks_ascend v.entries h.words order)
 
 same_bindings : (v : VertexPart) (lawful : IsVertexPart v) → ((number : ℕ) → IsSome (present_at v.bindings number) → IsTrue (is_named v.attributes number)) → kept_bindings v lawful ≡ v.bindings
-same_bindings v lawful named = sym (fill_by_all (kept v lawful) v.bindings BINDINGS None lawful.binding_count (λ k within. stays k within))
+same_bindings v lawful named = sym (fill_by_all (kept v lawful) v.bindings VERTEX_BINDINGS None lawful.binding_count (λ k within. stays k within))
   where
     by_test : (k : ℕ) (b : Bool) (o : Option VertexBinding) → (IsSome o → b ≡ true) → o ≡ (if b then o else None)
     by_test k true o h = refl
@@ -258,7 +259,7 @@ same_bindings v lawful named = sym (fill_by_all (kept v lawful) v.bindings BINDI
         false_true : false ≡ true → ⊥
         false_true e = cc
 
-    stays : (k : ℕ) → k < BINDINGS → get_or v.bindings k None ≡ kept v lawful k
+    stays : (k : ℕ) → k < VERTEX_BINDINGS → get_or v.bindings k None ≡ kept v lawful k
     stays k within = sym (present_at-get_or v.bindings k None (omega (arith, lawful.binding_count))) ∙ by_test k (is_named v.attributes k) (present_at v.bindings k) (named k)
 
 same_prerast_part : (ids : List ℕ) (topology : Topology) (p : PrerastPart) → canonical_entries ids p.entries ≡ p.entries → (topology ≡ Points → (p.cull ≡ 0) × (p.ccw ≡ false)) → canonical_prerast ids topology p ≡ p
@@ -274,7 +275,7 @@ same_fragment_part ids None h order samples declared = refl
 same_fragment_part ids (Some f) h order samples declared =
     ap (λ x. Some x) (same_fragment refl refl refl refl refl (none_is f.multisample samples) (same_entries ids f.entries h.entries order declared))
 
-same_output_part : (o : Option OutputPart) → IfSome o (λ o. o.logic ≢ Some COPY) → option_map canonical_output o ≡ o
+same_output_part : (o : Option OutputPart) → IfSome o (λ o. o.logic ≢ Some LOGIC_OP_COPY) → option_map canonical_output o ≡ o
 same_output_part None h = refl
 same_output_part (Some o) h = ap (λ x. Some x) (same_output refl refl refl (others_stay o.logic h) refl)
 

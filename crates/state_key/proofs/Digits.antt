@@ -3,7 +3,7 @@ use Rattle.std.proofs.Common.{◌≡◌, ℕ, zero, suc, ◌+◌, ◌*◌, ◌/�
 use Rattle.std.specs.List.{All}
 use Rattle.std.proofs.lemmas.List.Elements.{All-head, All-tail}
 use Rattle.std.proofs.lemmas.Nat.{shr-shr, shr_high, mod_low}
-use Rattle.state_model.specs.Key.{packed}
+use Rattle.state_model.specs.Key.{packed_word}
 use Rattle.state_key.specs.Unpacked.{digit}
 
 low : (bits v p : ℕ) → v < 2 ^ bits → (v + 2 ^ bits * p) % 2 ^ bits ≡ v
@@ -23,9 +23,9 @@ later_digit bits v p i small =
     let more : bits * suc i ≡ bits + bits * i = omega arith in
     rw (more, ← shr-shr (v + 2 ^ bits * p) bits (bits * i), high bits v p small)
 
-pub digit-packed : {X : Type 0} (bits : ℕ) (f : X → ℕ) (xs : List X) (i : ℕ) (d : X) → All (λ x. f x < 2 ^ bits) xs → i < length xs → digit bits (packed bits (map f xs)) i ≡ f (get_or xs i d)
-digit-packed bits f [] i d small within = absurd (omega arith)
-digit-packed bits f (x ∷ xs) zero d small within =
-    first_digit bits (f x) (packed bits (map f xs)) (All-head (λ x. f x < 2 ^ bits) x xs small)
-digit-packed bits f (x ∷ xs) (suc i) d small within =
-    later_digit bits (f x) (packed bits (map f xs)) i (All-head (λ x. f x < 2 ^ bits) x xs small) ∙ digit-packed bits f xs i d (All-tail (λ x. f x < 2 ^ bits) x xs small) (omega arith)
+pub digit-packed_word : {X : Type 0} (bits : ℕ) (f : X → ℕ) (xs : List X) (i : ℕ) (d : X) → All (λ x. f x < 2 ^ bits) xs → i < length xs → digit bits (packed_word bits (map f xs)) i ≡ f (get_or xs i d)
+digit-packed_word bits f [] i d small within = absurd (omega arith)
+digit-packed_word bits f (x ∷ xs) zero d small within =
+    first_digit bits (f x) (packed_word bits (map f xs)) (All-head (λ x. f x < 2 ^ bits) x xs small)
+digit-packed_word bits f (x ∷ xs) (suc i) d small within =
+    later_digit bits (f x) (packed_word bits (map f xs)) i (All-head (λ x. f x < 2 ^ bits) x xs small) ∙ digit-packed_word bits f xs i d (All-tail (λ x. f x < 2 ^ bits) x xs small) (omega arith)

@@ -89,7 +89,7 @@ attachment_back None h = refl
 attachment_back (Some a) h =
     let small = write_mask_small a h in
     let w : ℕ = attachment_byte (Some a) in
-    attachment_there a w (not_zero w (omega (arith, h.some_format))) (omega (arith, h.format)) (omega (arith, h.format))
+    attachment_there a w (not_zero w (omega (arith, h.first_format))) (omega (arith, h.last_format)) (omega (arith, h.last_format))
 
 entry_there : (e : Entry) (w : ℕ) → field w 32 32 ≡ e.id → field w 0 32 ≡ e.value → Some (record { id = field w 32 32; value = field w 0 32 }) ≡ Some e
 entry_there e w i v = rw (i, v)
@@ -101,4 +101,4 @@ entry_back count i (Some e) h t =
 
 pub attachment_byte_small : (a : Option Attachment) → IfSome a IsAttachment → attachment_byte a < 2 ^ 8
 attachment_byte_small None h = omega arith
-attachment_byte_small (Some a) h = let small = write_mask_small a h in omega (arith, h.format)
+attachment_byte_small (Some a) h = let small = write_mask_small a h in omega (arith, h.last_format)

@@ -7,7 +7,7 @@ use Rattle.std.proofs.lemmas.List.Sums.{count_by-le-length}
 use Rattle.state_model.specs.Lawful.{IsLawful, IsFragmentPart, IsOutputPart}
 use Rattle.state_model.specs.Canonical.{IsTidy}
 use Rattle.state_model.specs.Key.{key, bit, flags_word, modules_word, counts_word, fixed_words, fragment_entries, topology_bit, entry_count, entry_word, layout_word, depth_word, multisample_word, logic_word, attachments_word}
-use Rattle.state_model.specs.declared.TheConstants.{LOCATIONS, BINDINGS, ENTRIES}
+use Rattle.limits.specs.declared.TheConstants.{LOCATIONS, VERTEX_BINDINGS, ENTRIES}
 use Rattle.state_model.specs.declared.parts.Topology.{Topology}
 use Rattle.state_model.specs.declared.parts.Topology.TheVariants.{Points, Triangles}
 use Rattle.state_model.specs.declared.parts.VertexBinding.{VertexBinding}
@@ -23,8 +23,8 @@ use Rattle.state_model.specs.declared.parts.FragmentPart.{FragmentPart}
 use Rattle.state_model.specs.declared.parts.OutputPart.{OutputPart}
 use Rattle.state_model.specs.declared.parts.State.{State}
 use Rattle.state_key.specs.declared.unpack.TheConstants.{FIXED_AT, FIXED_WORDS, ENTRIES_AT, FRAGMENT_ENTRIES_AT}
-use Rattle.state_key.specs.Known.{HasKey}
-use Rattle.state_key.specs.Unpacked.{field, flag, bindings_of, binding_at, attributes_of, attribute_at, vertex_of, prerast_of, fragment_of, output_of, unpacked, binding_of, attribute_of, multisample_of, depth_of, logic_of, layout_of, attachments_of}
+use Rattle.state_key.specs.Keys.{HasKey}
+use Rattle.state_key.specs.Unpacked.{field, flag, bindings_of, binding_at, attributes_of, attribute_at, vertex_of, prerast_of, fragment_of, output_of, unpacked_state, binding_of, attribute_of, multisample_of, depth_of, logic_of, layout_of, attachments_of}
 use Rattle.state_key.proofs.FieldReads.{bit-le, flag_bit, binding_back, attribute_back, depth_back, multisample_back, logic_back}
 use Rattle.state_key.proofs.RoundTrip.{layout_back, attachments_back, entries_back}
 use Rattle.state_key.proofs.Sections.{HasLengths, binding_word_at, attribute_word_at, fixed_word_at, entry_word_at, fragment_entry_word_at}
@@ -155,7 +155,7 @@ lengths s h = record {
     fragment_length None h = refl
     fragment_length (Some f) h = h.entries.count
 
-bindings_made : (k : List ℕ) (v : VertexPart) → map (binding_at k) (range_with_len 0 BINDINGS) ≡ v.bindings → bindings_of k ≡ v.bindings
+bindings_made : (k : List ℕ) (v : VertexPart) → map (binding_at k) (range_with_len 0 VERTEX_BINDINGS) ≡ v.bindings → bindings_of k ≡ v.bindings
 unfolding bindings_of
 bindings_made k v e = e
 
@@ -172,9 +172,9 @@ none_is (Some x) h = cc
 
 module _ (s : State) (lawful : IsLawful s) (tidy : IsTidy s) where
   bindings_back : bindings_of (key s) ≡ s.vertex.bindings
-  bindings_back = bindings_made (key s) s.vertex (sym (fill_by_all (binding_at (key s)) s.vertex.bindings BINDINGS None lawful.vertex.binding_count each))
+  bindings_back = bindings_made (key s) s.vertex (sym (fill_by_all (binding_at (key s)) s.vertex.bindings VERTEX_BINDINGS None lawful.vertex.binding_count each))
     where
-      each : (i : ℕ) → i < BINDINGS → get_or s.vertex.bindings i None ≡ binding_at (key s) i
+      each : (i : ℕ) → i < VERTEX_BINDINGS → get_or s.vertex.bindings i None ≡ binding_at (key s) i
       each i within = sym (ap binding_of (binding_word_at s (lengths s lawful) i within) ∙ binding_back (get_or s.vertex.bindings i None) (lawful.vertex.bindings i None (omega (arith, lawful.vertex.binding_count))))
 
   attributes_back : attributes_of (key s) ≡ s.vertex.attributes
@@ -273,9 +273,9 @@ module _ (s : State) (lawful : IsLawful s) (tidy : IsTidy s) where
           true_is_false e = cc
       not_discarded false h = refl
 
-  pub unpacked-key : unpacked (key s) ≡ s
-  unfolding unpacked
-  unpacked-key = same_state
+  pub unpacked_state-key : unpacked_state (key s) ≡ s
+  unfolding unpacked_state
+  unpacked_state-key = same_state
       vertex_back
       prerast_back
       (present s.fragment lawful.accord.fragment_there.1 lawful.accord.fragment_there.0 (fragment_of (key s)) fragment_back)
@@ -283,7 +283,7 @@ module _ (s : State) (lawful : IsLawful s) (tidy : IsTidy s) where
 
 -- two states with one key are equal
 pub same_from_key : (a b : State) → IsLawful a → IsTidy a → IsLawful b → IsTidy b → key a ≡ key b → a ≡ b
-same_from_key a b la ta lb tb e = sym (unpacked-key a la ta) ∙ ap unpacked e ∙ unpacked-key b lb tb
+same_from_key a b la ta lb tb e = sym (unpacked_state-key a la ta) ∙ ap unpacked_state e ∙ unpacked_state-key b lb tb
 
-pub unpacked_is : (k : List ℕ) (s : State) → HasKey k s → unpacked k ≡ s
-unpacked_is k s h = ap unpacked (sym h.same) ∙ unpacked-key s h.lawful h.tidy
+pub unpacked_is : (k : List ℕ) (s : State) → HasKey k s → unpacked_state k ≡ s
+unpacked_is k s h = ap unpacked_state (sym h.same) ∙ unpacked_state-key s h.lawful h.tidy

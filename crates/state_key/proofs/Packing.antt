@@ -6,14 +6,14 @@ use Rattle.std.proofs.Math.Nat.{mul-le-mul_left}
 use Rattle.std.proofs.Math.ListN.{drop_of_length-le}
 use Rattle.std.proofs.Math.Seq.{drop-cons}
 use Rattle.state_model.specs.Lawful.{IsAttachment, format_components}
-use Rattle.state_model.specs.Key.{packed}
+use Rattle.state_model.specs.Key.{packed_word}
 use Rattle.state_model.specs.declared.parts.Attachment.{Attachment}
 
-pub packed-drop : {X : Type 0} (bits : ℕ) (f : X → ℕ) (xs : List X) (i : ℕ) (d : X) → i < length xs → packed bits (map f (drop i xs)) ≡ f (get_or xs i d) + 2 ^ bits * packed bits (map f (drop (i + 1) xs))
-packed-drop bits f xs i d within = rw (drop-cons xs i d within, add-one)
+pub packed_word-drop : {X : Type 0} (bits : ℕ) (f : X → ℕ) (xs : List X) (i : ℕ) (d : X) → i < length xs → packed_word bits (map f (drop i xs)) ≡ f (get_or xs i d) + 2 ^ bits * packed_word bits (map f (drop (i + 1) xs))
+packed_word-drop bits f xs i d within = rw (drop-cons xs i d within, add-one)
 
-pub packed-drop_all : {X : Type 0} (bits : ℕ) (f : X → ℕ) (xs : List X) (n : ℕ) → length xs ≡ n → packed bits (map f (drop n xs)) ≡ 0
-packed-drop_all bits f xs n whole = rw (drop_of_length-le xs {i = n} (omega arith))
+pub packed_word-drop_all : {X : Type 0} (bits : ℕ) (f : X → ℕ) (xs : List X) (n : ℕ) → length xs ≡ n → packed_word bits (map f (drop n xs)) ≡ 0
+packed_word-drop_all bits f xs n whole = rw (drop_of_length-le xs {i = n} (omega arith))
 
 -- a value of so many bits below n of them makes one more
 pub next_fits : (bits n word value : ℕ) → value < 2 ^ bits → word < 2 ^ (bits * n) → value + 2 ^ bits * word < 2 ^ (bits * (n + 1))
@@ -39,14 +39,14 @@ write_mask_small a h =
 -- the word holds the values from a place on
 pub record Packs {X : Type 0} (bits count : ℕ) (f : X → ℕ) (xs : List X) (at word : ℕ) : Type 0 where
   pub within : at ≤ count
-  pub value : word ≡ packed bits (map f (drop at xs))
+  pub value : word ≡ packed_word bits (map f (drop at xs))
   pub bound : word < 2 ^ (bits * (count - at))
 
 module _ {X : Type 0} (bits count : ℕ) (f : X → ℕ) (xs : List X) (whole : length xs ≡ count) where
   pub Packs-start : Packs bits count f xs count 0
   Packs-start = record {
     within = omega arith;
-    value = sym (packed-drop_all bits f xs count whole);
+    value = sym (packed_word-drop_all bits f xs count whole);
     bound = let none : bits * (count - count) ≡ 0 = none_left count in rw none (lit< tt);
   }
     where
@@ -59,7 +59,7 @@ module _ {X : Type 0} (bits count : ℕ) (f : X → ℕ) (xs : List X) (whole : 
       let left : count - (at - 1) ≡ count - at + 1 = omega (arith, so_far.within) in
       record {
         within = omega (arith, so_far.within);
-        value = made ∙ ap (λ v. v + 2 ^ bits * word) is ∙ ap (λ w. f (get_or xs (at - 1) d) + 2 ^ bits * w) (so_far.value ∙ ap (λ i. packed bits (map f (drop i xs))) (sym back)) ∙ sym (packed-drop bits f xs (at - 1) d (omega (arith, so_far.within)));
+        value = made ∙ ap (λ v. v + 2 ^ bits * word) is ∙ ap (λ w. f (get_or xs (at - 1) d) + 2 ^ bits * w) (so_far.value ∙ ap (λ i. packed_word bits (map f (drop i xs))) (sym back)) ∙ sym (packed_word-drop bits f xs (at - 1) d (omega (arith, so_far.within)));
         bound = rw (made, left) (next_fits bits (count - at) word value small so_far.bound);
       }
 

@@ -7,24 +7,24 @@ use Rattle.std.proofs.lemmas.List.FromFn.{fill_by_all}
 use Rattle.std.proofs.lemmas.List.Sums.{sum_by-cons}
 use Rattle.state_model.specs.Lawful.{AllPresent, IsLayout, IsSpecValues, IsAttachment}
 use Rattle.state_model.specs.Canonical.{AreInOrder, Precedes}
-use Rattle.state_model.specs.Key.{bit, packed, layout_word, entry_word, entry_count, attachment_byte}
-use Rattle.state_model.specs.declared.TheConstants.{SETS, ENTRIES, ATTACHMENTS}
+use Rattle.state_model.specs.Key.{bit, packed_word, layout_word, entry_word, entry_count, attachment_byte}
+use Rattle.limits.specs.declared.TheConstants.{DESCRIPTOR_SETS, ENTRIES, ATTACHMENTS}
 use Rattle.state_model.specs.declared.parts.Layout.{Layout}
 use Rattle.state_model.specs.declared.parts.Entry.{Entry}
 use Rattle.state_model.specs.declared.parts.SpecValues.{SpecValues}
 use Rattle.state_model.specs.declared.parts.Attachment.{Attachment}
 use Rattle.state_key.specs.Unpacked.{field, flag, digit, set_of, layout_of, entry_of, entry_at, entries_of, attachment_of, attachment_at, attachments_of}
-use Rattle.state_key.proofs.Digits.{digit-packed}
+use Rattle.state_key.proofs.Digits.{digit-packed_word}
 use Rattle.state_key.proofs.FieldReads.{bit-le, flag_bit, attachment_back, entry_back, attachment_byte_small}
 use Rattle.state_key.proofs.Packing.{next_fits}
 
 -- values of so many bits each fit into all their bits together
-packed_fits : {X : Type 0} (bits : ℕ) (f : X → ℕ) (xs : List X) → All (λ x. f x < 2 ^ bits) xs → packed bits (map f xs) < 2 ^ (bits * length xs)
+packed_fits : {X : Type 0} (bits : ℕ) (f : X → ℕ) (xs : List X) → All (λ x. f x < 2 ^ bits) xs → packed_word bits (map f xs) < 2 ^ (bits * length xs)
 packed_fits bits f [] h = let none : bits * 0 ≡ 0 = omega arith in rw none (omega arith)
 packed_fits bits f (x ∷ xs) h =
     let rest = packed_fits bits f xs (All-tail (λ x. f x < 2 ^ bits) x xs h) in
     let more : suc (length xs) ≡ length xs + 1 = omega arith in
-    rw more (next_fits bits (length xs) (packed bits (map f xs)) (f x) (All-head (λ x. f x < 2 ^ bits) x xs h) rest)
+    rw more (next_fits bits (length xs) (packed_word bits (map f xs)) (f x) (All-head (λ x. f x < 2 ^ bits) x xs h) rest)
 
 abbrev defined_bit : Option ℕ → ℕ
 defined_bit set = bit (is_some set)
@@ -43,28 +43,28 @@ mask_small : (set : Option ℕ) → IfSome set (λ mask. mask < 2 ^ 8) → mask_
 mask_small None h = omega arith
 mask_small (Some mask) h = h
 
-layout_made : (w : ℕ) (l : Layout) → flag w 0 ≡ l.independent → field w 8 8 ≡ l.push_words → map (set_of (field w 16 16) (field w 32 32)) (range_with_len 0 SETS) ≡ l.sets → layout_of w ≡ l
+layout_made : (w : ℕ) (l : Layout) → flag w 0 ≡ l.independent → field w 8 8 ≡ l.push_words → map (set_of (field w 16 16) (field w 32 32)) (range_with_len 0 DESCRIPTOR_SETS) ≡ l.sets → layout_of w ≡ l
 unfolding layout_of
 layout_made w l i p s = rw (i, p, s)
 
-sets_back : (defined masks : ℕ) (l : Layout) → IsLayout l → defined ≡ packed 1 (map defined_bit l.sets) → masks ≡ packed 8 (map mask_of l.sets) → map (set_of defined masks) (range_with_len 0 SETS) ≡ l.sets
-sets_back defined masks l h d m = sym (fill_by_all (set_of defined masks) l.sets SETS None h.set_count each)
+sets_back : (defined masks : ℕ) (l : Layout) → IsLayout l → defined ≡ packed_word 1 (map defined_bit l.sets) → masks ≡ packed_word 8 (map mask_of l.sets) → map (set_of defined masks) (range_with_len 0 DESCRIPTOR_SETS) ≡ l.sets
+sets_back defined masks l h d m = sym (fill_by_all (set_of defined masks) l.sets DESCRIPTOR_SETS None h.set_count each)
   where
-    each : (i : ℕ) → i < SETS → get_or l.sets i None ≡ set_of defined masks i
+    each : (i : ℕ) → i < DESCRIPTOR_SETS → get_or l.sets i None ≡ set_of defined masks i
     each i within = sym (set_back defined masks i (get_or l.sets i None)
-        (ap (λ w. digit 1 w i) d ∙ digit-packed 1 defined_bit l.sets i None (defined_small l.sets) (omega (arith, h.set_count)))
-        (ap (λ w. digit 8 w i) m ∙ digit-packed 8 mask_of l.sets i None (λ k d within. mask_small (get_or l.sets k d) (h.masks k d within)) (omega (arith, h.set_count))))
+        (ap (λ w. digit 1 w i) d ∙ digit-packed_word 1 defined_bit l.sets i None (defined_small l.sets) (omega (arith, h.set_count)))
+        (ap (λ w. digit 8 w i) m ∙ digit-packed_word 8 mask_of l.sets i None (λ k d within. mask_small (get_or l.sets k d) (h.masks k d within)) (omega (arith, h.set_count))))
 
 pub layout_back : (l : Layout) → IsLayout l → layout_of (layout_word l) ≡ l
-layout_back l h = from_word (layout_word l) (packed 1 (map defined_bit l.sets)) (packed 8 (map mask_of l.sets)) refl few words refl refl
+layout_back l h = from_word (layout_word l) (packed_word 1 (map defined_bit l.sets)) (packed_word 8 (map mask_of l.sets)) refl few words refl refl
   where
-    few : packed 1 (map defined_bit l.sets) < 2 ^ (1 * SETS)
+    few : packed_word 1 (map defined_bit l.sets) < 2 ^ (1 * DESCRIPTOR_SETS)
     few = rw h.set_count at (packed_fits 1 defined_bit l.sets (defined_small l.sets))
 
-    words : packed 8 (map mask_of l.sets) < 2 ^ (8 * SETS)
+    words : packed_word 8 (map mask_of l.sets) < 2 ^ (8 * DESCRIPTOR_SETS)
     words = rw h.set_count at (packed_fits 8 mask_of l.sets (λ k d within. mask_small (get_or l.sets k d) (h.masks k d within)))
 
-    from_word : (w defined masks : ℕ) → w ≡ bit l.independent + 2 ^ 8 * l.push_words + 2 ^ 16 * defined + 2 ^ 32 * masks → defined < 2 ^ (1 * SETS) → masks < 2 ^ (8 * SETS) → defined ≡ packed 1 (map defined_bit l.sets) → masks ≡ packed 8 (map mask_of l.sets) → layout_of w ≡ l
+    from_word : (w defined masks : ℕ) → w ≡ bit l.independent + 2 ^ 8 * l.push_words + 2 ^ 16 * defined + 2 ^ 32 * masks → defined < 2 ^ (1 * DESCRIPTOR_SETS) → masks < 2 ^ (8 * DESCRIPTOR_SETS) → defined ≡ packed_word 1 (map defined_bit l.sets) → masks ≡ packed_word 8 (map mask_of l.sets) → layout_of w ≡ l
     from_word w defined masks e d m is_defined is_masks =
         let one = bit-le l.independent in
         let push = h.push_words in
@@ -76,17 +76,17 @@ attachments_made : (w : ℕ) (attachments : List (Option Attachment)) → map (a
 unfolding attachments_of
 attachments_made w attachments e = e
 
-pub attachments_back : (attachments : List (Option Attachment)) → length attachments ≡ ATTACHMENTS → AllPresent IsAttachment attachments → attachments_of (packed 8 (map attachment_byte attachments)) ≡ attachments
+pub attachments_back : (attachments : List (Option Attachment)) → length attachments ≡ ATTACHMENTS → AllPresent IsAttachment attachments → attachments_of (packed_word 8 (map attachment_byte attachments)) ≡ attachments
 attachments_back attachments long lawful =
-    attachments_made (packed 8 (map attachment_byte attachments)) attachments (sym (fill_by_all (attachment_at (packed 8 (map attachment_byte attachments))) attachments ATTACHMENTS None long each))
+    attachments_made (packed_word 8 (map attachment_byte attachments)) attachments (sym (fill_by_all (attachment_at (packed_word 8 (map attachment_byte attachments))) attachments ATTACHMENTS None long each))
   where
     small : All (λ a. attachment_byte a < 2 ^ 8) attachments
     small k d within = attachment_byte_small (get_or attachments k d) (lawful k d within)
 
-    each : (i : ℕ) → i < ATTACHMENTS → get_or attachments i None ≡ attachment_at (packed 8 (map attachment_byte attachments)) i
+    each : (i : ℕ) → i < ATTACHMENTS → get_or attachments i None ≡ attachment_at (packed_word 8 (map attachment_byte attachments)) i
     each i within =
         let there : i < length attachments = omega arith in
-        sym (ap attachment_of (digit-packed 8 attachment_byte attachments i None small there) ∙ attachment_back (get_or attachments i None) (lawful i None there))
+        sym (ap attachment_of (digit-packed_word 8 attachment_byte attachments i None small there) ∙ attachment_back (get_or attachments i None) (lawful i None there))
 
 AllPairs-tail : {X : Type 0} (R : X → X → Type 0) (x : X) (xs : List X) → AllPairs R (x ∷ xs) → AllPairs R xs
 AllPairs-tail R x xs h i j d before within = h (suc i) (suc j) d (omega arith) (omega arith)

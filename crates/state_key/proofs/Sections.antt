@@ -3,7 +3,7 @@ use Rattle.std.proofs.Common.{◌≡◌, ℕ, ◌+◌, ◌<◌, List, [], ◌∷
 use Rattle.std.proofs.lemmas.List.{get_or-append-add, length-map}
 use Rattle.std.proofs.Math.ListN.{get_or-append}
 use Rattle.state_model.specs.Key.{key, binding_word, attribute_word, entry_word, fixed_words, fragment_entries, flags_word, modules_word, counts_word}
-use Rattle.state_model.specs.declared.TheConstants.{LOCATIONS, BINDINGS, ENTRIES}
+use Rattle.limits.specs.declared.TheConstants.{LOCATIONS, VERTEX_BINDINGS, ENTRIES}
 use Rattle.state_key.specs.declared.unpack.TheConstants.{BINDINGS_AT, ATTRIBUTES_AT, FIXED_AT, FIXED_WORDS, ENTRIES_AT, FRAGMENT_ENTRIES_AT}
 use Rattle.state_model.specs.declared.parts.State.{State}
 
@@ -44,7 +44,7 @@ module _ (s : State) where
 
 -- the lists of the state are as long as their sections
 pub record HasLengths (s : State) : Type 0 where
-  pub bindings : length s.vertex.bindings ≡ BINDINGS
+  pub bindings : length s.vertex.bindings ≡ VERTEX_BINDINGS
   pub attributes : length s.vertex.attributes ≡ LOCATIONS
   pub entries : length s.prerast.entries.entries ≡ ENTRIES
   pub fragment_entries : length (fragment_entries s.fragment) ≡ ENTRIES
@@ -56,8 +56,8 @@ module _ (s : State) (lengths : HasLengths s) where
 
   past_bindings : (i : ℕ) → get_or (key s) (ATTRIBUTES_AT + i) 0 ≡ get_or (after_bindings s) i 0
   past_bindings i =
-      let place : ATTRIBUTES_AT + i ≡ BINDINGS_AT + (BINDINGS + i) = omega arith in
-      ap (λ j. get_or (key s) j 0) place ∙ past_head (BINDINGS + i) ∙ skip BINDINGS (map binding_word s.vertex.bindings) (after_bindings s) i (length-map s.vertex.bindings binding_word ∙ lengths.bindings)
+      let place : ATTRIBUTES_AT + i ≡ BINDINGS_AT + (VERTEX_BINDINGS + i) = omega arith in
+      ap (λ j. get_or (key s) j 0) place ∙ past_head (VERTEX_BINDINGS + i) ∙ skip VERTEX_BINDINGS (map binding_word s.vertex.bindings) (after_bindings s) i (length-map s.vertex.bindings binding_word ∙ lengths.bindings)
 
   past_attributes : (i : ℕ) → get_or (key s) (FIXED_AT + i) 0 ≡ get_or (after_attributes s) i 0
   past_attributes i =
@@ -74,7 +74,7 @@ module _ (s : State) (lengths : HasLengths s) where
       let place : FRAGMENT_ENTRIES_AT + i ≡ ENTRIES_AT + (ENTRIES + i) = omega arith in
       ap (λ j. get_or (key s) j 0) place ∙ past_fixed (ENTRIES + i) ∙ skip ENTRIES (map entry_word s.prerast.entries.entries) (after_entries s) i (length-map s.prerast.entries.entries entry_word ∙ lengths.entries)
 
-  pub binding_word_at : (i : ℕ) → i < BINDINGS → slice_index (key s) (BINDINGS_AT + i) ≡ binding_word (get_or s.vertex.bindings i None)
+  pub binding_word_at : (i : ℕ) → i < VERTEX_BINDINGS → slice_index (key s) (BINDINGS_AT + i) ≡ binding_word (get_or s.vertex.bindings i None)
   binding_word_at i within =
       past_head i ∙ word_at binding_word s.vertex.bindings (after_bindings s) i None (omega (arith, lengths.bindings))
 

@@ -1,5 +1,5 @@
 pub mod AllDeclared
 pub mod Distinct
-pub mod Known
+pub mod Keys
 pub mod Tidy
 pub mod Unpacked

@@ -2,6 +2,7 @@
 use Rattle.std.specs.Prelude.{◌≡◌, ℕ, false, IsTrue, IsSome, ◌-◌, List, Option, slice_index_or}
 use Rattle.state_model.specs.Lawful.{present_at}
 use Rattle.state_model.specs.Canonical.{is_named, Precedes}
+use Rattle.state_model.specs.declared.vulkan.TheConstants.{CULL_MODE_NONE}
 use Rattle.state_model.specs.declared.parts.Topology.{Topology}
 use Rattle.state_model.specs.declared.parts.Topology.TheVariants.{Points}
 use Rattle.state_model.specs.declared.parts.Entry.{Entry}
@@ -14,7 +15,7 @@ BindingsAreNamed bindings attributes =
     (number : ℕ) → IsSome (present_at bindings number) → IsTrue (is_named attributes number)
 
 abbrev pub IsWithoutFacing : Topology → PrerastPart → Type 0
-IsWithoutFacing topology p = topology ≡ Points → (p.cull ≡ 0) × (p.ccw ≡ false)
+IsWithoutFacing topology p = topology ≡ Points → (p.cull ≡ CULL_MODE_NONE) × (p.ccw ≡ false)
 
 -- the entry at i comes after the one before it
 abbrev pub PrecedesNext : List (Option Entry) → ℕ → Type 0

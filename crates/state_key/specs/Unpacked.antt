@@ -2,7 +2,7 @@
 use Rattle.std.specs.Prelude.{ℕ, ◌+◌, ◌-◌, ◌*◌, ◌/◌, ◌%◌, ◌^◌, ◌==◌, Bool, nat_lt, List, Option, Some, None, map, slice_index, if◌then◌else◌}
 use Rattle.std.specs.List.{range_with_len}
 use Rattle.state_key.specs.declared.unpack.TheConstants.{BINDINGS_AT, ATTRIBUTES_AT, FIXED_AT, ENTRIES_AT, FRAGMENT_ENTRIES_AT}
-use Rattle.state_model.specs.declared.TheConstants.{LOCATIONS, BINDINGS, SETS, ENTRIES, ATTACHMENTS}
+use Rattle.limits.specs.declared.TheConstants.{LOCATIONS, VERTEX_BINDINGS, DESCRIPTOR_SETS, ENTRIES, ATTACHMENTS}
 use Rattle.state_model.specs.declared.parts.Topology.TheVariants.{Points, Triangles}
 use Rattle.state_model.specs.declared.parts.VertexBinding.{VertexBinding}
 use Rattle.state_model.specs.declared.parts.Attribute.{Attribute}
@@ -45,7 +45,7 @@ unfoldable pub layout_of : ℕ → Layout
 layout_of w = record {
   independent = flag w 0;
   push_words = field w 8 8;
-  sets = map (set_of (field w 16 16) (field w 32 32)) (range_with_len 0 SETS);
+  sets = map (set_of (field w 16 16) (field w 32 32)) (range_with_len 0 DESCRIPTOR_SETS);
 }
 
 abbrev pub multisample_of : ℕ → Multisample
@@ -80,7 +80,7 @@ unfoldable pub entries_of : List ℕ → ℕ → ℕ → SpecValues
 entries_of k at count = record { entries = map (entry_at k at count) (range_with_len 0 ENTRIES) }
 
 unfoldable pub bindings_of : List ℕ → List (Option VertexBinding)
-bindings_of k = map (binding_at k) (range_with_len 0 BINDINGS)
+bindings_of k = map (binding_at k) (range_with_len 0 VERTEX_BINDINGS)
 
 unfoldable pub attributes_of : List ℕ → List (Option Attribute)
 attributes_of k = map (attribute_at k) (range_with_len 0 LOCATIONS)
@@ -128,8 +128,8 @@ output_of k = record {
   attachments = attachments_of (slice_index k (FIXED_AT + 6));
 }
 
-unfoldable pub unpacked : List ℕ → State
-unpacked k = record {
+unfoldable pub unpacked_state : List ℕ → State
+unpacked_state k = record {
   vertex = vertex_of k;
   prerast = prerast_of k;
   fragment = if flag (slice_index k 0) 1 then None else Some (fragment_of k);

@@ -3,12 +3,13 @@ ghost use Rattle.std.specs.Prelude.{◌≡◌, ◌<◌, IfSome, map};
 ghost use Rattle.std.specs.Option.{option_map};
 ghost use Rattle.state_model.specs.Lawful.{IsLawful, IsSpecValues, AllPresent, IsEntry};
 ghost use Rattle.state_model.specs.Canonical.{canonical, canonical_entries, canonical_vertex, canonical_prerast, canonical_fragment, canonical_output, if_declared, is_declared, entry_rank, without_copy, IsCanonicalOf, IsTidy};
-ghost use Rattle.state_key.specs.AllDeclared.{DeclaresAll};
+ghost use Rattle.state_key.specs.AllDeclared.{KeepsTidy};
 
 use crate::tidy::is_named;
+use limits::{ENTRIES, VERTEX_BINDINGS};
+use state_model::vulkan::{CULL_MODE_NONE, LOGIC_OP_COPY};
 use state_model::{
-    BINDINGS, COPY, ENTRIES, Entry, FragmentPart, OutputPart, PrerastPart, SpecValues, State,
-    Topology, VertexPart,
+    Entry, FragmentPart, OutputPart, PrerastPart, SpecValues, State, Topology, VertexPart,
 };
 
 /// The canonical form of a lawful state whose vertex module declares the specialization constants `vs_ids` and whose
@@ -19,9 +20,7 @@ pub fn canon(state: &State, vs_ids: &[u32], fs_ids: &[u32]) -> State
     ensures form { IsCanonicalOf vs_ids.now fs_ids.now state.now result }
     ensures lawful { IsLawful result }
     ensures tidy { IsTidy result }
-
-    // Of a tidy state it drops at most entries that no module declares.
-    ensures unchanged { IsTidy state.now → DeclaresAll vs_ids.now fs_ids.now state.now → result ≡ state.now }
+    ensures unchanged { KeepsTidy vs_ids.now fs_ids.now state.now result }
 {
     canonical_state(state, vs_ids, fs_ids)
 }
@@ -42,8 +41,8 @@ fn canonical_state(state: &State, vs_ids: &[u32], fs_ids: &[u32]) -> State
 fn canonical_vertex(v: &VertexPart) -> VertexPart
     ensures { result ≡ canonical_vertex v.now }
 {
-    let mut bindings = [None; BINDINGS];
-    for number in 0..BINDINGS {
+    let mut bindings = [None; VERTEX_BINDINGS];
+    for number in 0..VERTEX_BINDINGS {
         if is_named(&v.attributes, number) {
             bindings[number] = v.bindings[number];
         }
@@ -58,7 +57,7 @@ fn canonical_prerast(p: &PrerastPart, topology: Topology, ids: &[u32]) -> Preras
     let entries = canonical_entries(&p.entries, ids);
     match topology {
         Topology::Points => PrerastPart {
-            cull: 0,
+            cull: CULL_MODE_NONE,
             ccw: false,
             entries,
             ..*p
@@ -85,7 +84,7 @@ fn canonical_output(o: OutputPart) -> OutputPart
     ensures { result ≡ canonical_output o }
 {
     OutputPart {
-        logic: o.logic.filter(|op| *op != COPY),
+        logic: o.logic.filter(|op| *op != LOGIC_OP_COPY),
         ..o
     }
 }

@@ -4,16 +4,20 @@ ghost use Rattle.std.specs.Option.{option_map_or, option_and_then};
 ghost use Rattle.state_model.specs.Lawful.{AllPresent, IsLawful, IsLayout, IsAttachment, IsOutputPart, IsSpecValues, IsMultisample};
 ghost use Rattle.state_model.specs.Canonical.{IsTidy};
 ghost use Rattle.state_model.specs.declared.parts.State.{State};
-ghost use Rattle.state_key.specs.Known.{HasKey, TellsApart};
-ghost use Rattle.state_model.specs.Key.{key, bit, packed, binding_word, attribute_word, layout_word, multisample_word, depth_word, logic_word, attachment_byte, attachments_word, entry_word, entry_count, fragment_entries, flags_word, modules_word, counts_word, fixed_words, topology_bit};
+ghost use Rattle.state_key.specs.Keys.{HasKey, TellsApart};
+ghost use Rattle.state_model.specs.Key.{key, bit, packed_word, binding_word, attribute_word, layout_word, multisample_word, depth_word, logic_word, attachment_byte, attachments_word, entry_word, entry_count, fragment_entries, flags_word, modules_word, counts_word, fixed_words, topology_bit};
 
 use crate::lawful::Lawful;
 use crate::tidy::is_tidy;
-use crate::unpack::unpacked;
-use crate::words::Words;
+use crate::unpack::unpacked_state;
+use crate::words::KeyWords;
+use limits::{
+    ATTACHMENTS, DESCRIPTOR_SETS, ENTRIES, KEY_WORDS, LOCATIONS, MODULES, VERTEX_BINDINGS,
+};
+use state_model::vulkan::CULL_MODE_FRONT_AND_BACK;
 use state_model::{
-    ATTACHMENTS, Attachment, Attribute, BINDINGS, Depth, ENTRIES, Entry, FragmentPart, KEY_WORDS,
-    LOCATIONS, Layout, Multisample, OutputPart, SETS, State, Topology, VertexBinding,
+    Attachment, Attribute, Depth, Entry, FragmentPart, Layout, Multisample, OutputPart, State,
+    Topology, VertexBinding,
 };
 
 /// The key of a lawful state. Two lawful and tidy states have equal keys exactly where they are equal.
@@ -31,7 +35,7 @@ pub fn state_of(key: &[u64; KEY_WORDS]) -> Option<State>
     ensures sound { IfSome result (HasKey key.now) }
     ensures none { IfNone result ((s : State) → ¬ HasKey key.now s) }
 {
-    let state = unpacked(key);
+    let state = unpacked_state(key);
     if has_key(&state, key) {
         Some(state)
     } else {
@@ -50,7 +54,7 @@ fn key_words(state: &State) -> [u64; KEY_WORDS]
     requires { IsLawful state.now }
     ensures { result ≡ key state.now }
 {
-    let mut words = Words::new();
+    let mut words = KeyWords::new();
     push_words(
         &mut words,
         &[
@@ -68,7 +72,7 @@ fn key_words(state: &State) -> [u64; KEY_WORDS]
     words.finish()
 }
 
-fn push_words(words: &mut Words, more: &[u64])
+fn push_words(words: &mut KeyWords, more: &[u64])
     requires { length words.old + length more.now ≤ KEY_WORDS }
     ensures { words.new ≡ words.old ++ more.now }
 {
@@ -77,7 +81,7 @@ fn push_words(words: &mut Words, more: &[u64])
     }
 }
 
-fn push_bindings(words: &mut Words, bindings: &[Option<VertexBinding>])
+fn push_bindings(words: &mut KeyWords, bindings: &[Option<VertexBinding>])
     requires { length words.old + length bindings.now ≤ KEY_WORDS }
     ensures { words.new ≡ words.old ++ map binding_word bindings.now }
 {
@@ -86,7 +90,7 @@ fn push_bindings(words: &mut Words, bindings: &[Option<VertexBinding>])
     }
 }
 
-fn push_attributes(words: &mut Words, attributes: &[Option<Attribute>])
+fn push_attributes(words: &mut KeyWords, attributes: &[Option<Attribute>])
     requires { length words.old + length attributes.now ≤ KEY_WORDS }
     ensures { words.new ≡ words.old ++ map attribute_word attributes.now }
 {
@@ -95,7 +99,7 @@ fn push_attributes(words: &mut Words, attributes: &[Option<Attribute>])
     }
 }
 
-fn push_entries(words: &mut Words, entries: &[Option<Entry>])
+fn push_entries(words: &mut KeyWords, entries: &[Option<Entry>])
     requires { length words.old + length entries.now ≤ KEY_WORDS }
     ensures { words.new ≡ words.old ++ map entry_word entries.now }
 {
@@ -168,7 +172,7 @@ fn logic_word(logic: Option<u8>) -> u64
 }
 
 fn flags_word(s: &State) -> u64
-    requires { s.now.prerast.cull ≤ 3 }
+    requires { s.now.prerast.cull ≤ CULL_MODE_FRONT_AND_BACK }
     ensures { result ≡ flags_word s.now }
 {
     let triangles = bit(s.vertex.topology == Topology::Triangles);
@@ -185,7 +189,7 @@ fn flags_word(s: &State) -> u64
 }
 
 fn modules_word(s: &State) -> u64
-    requires { IfSome s.now.fragment (λ f. f.module < 64) }
+    requires { IfSome s.now.fragment (λ f. f.module < MODULES) }
     ensures { result ≡ modules_word s.now }
 {
     match &s.fragment {
@@ -225,12 +229,12 @@ fn layout_word(layout: &Layout) -> u64
         + (set_masks(&layout.sets) << 32)
 }
 
-fn sets_defined(sets: &[Option<u8>; SETS]) -> u64
-    ensures value { result ≡ packed 1 (map (λ set. bit (is_some set)) sets.now) }
-    ensures bound { result < 2 ^ (1 * SETS) }
+fn sets_defined(sets: &[Option<u8>; DESCRIPTOR_SETS]) -> u64
+    ensures value { result ≡ packed_word 1 (map (λ set. bit (is_some set)) sets.now) }
+    ensures bound { result < 2 ^ (1 * DESCRIPTOR_SETS) }
 {
     let mut word = 0;
-    let mut set = SETS;
+    let mut set = DESCRIPTOR_SETS;
     while set > 0 {
         set -= 1;
         word = with_lowest(word, 1, bit(sets[set].is_some()));
@@ -238,12 +242,12 @@ fn sets_defined(sets: &[Option<u8>; SETS]) -> u64
     word
 }
 
-fn set_masks(sets: &[Option<u8>; SETS]) -> u64
-    ensures value { result ≡ packed 8 (map (λ set. unwrap_or set 0) sets.now) }
-    ensures bound { result < 2 ^ (8 * SETS) }
+fn set_masks(sets: &[Option<u8>; DESCRIPTOR_SETS]) -> u64
+    ensures value { result ≡ packed_word 8 (map (λ set. unwrap_or set 0) sets.now) }
+    ensures bound { result < 2 ^ (8 * DESCRIPTOR_SETS) }
 {
     let mut word = 0;
-    let mut set = SETS;
+    let mut set = DESCRIPTOR_SETS;
     while set > 0 {
         set -= 1;
         word = with_lowest(word, 8, u64::from(sets[set].unwrap_or(0)));
@@ -253,7 +257,7 @@ fn set_masks(sets: &[Option<u8>; SETS]) -> u64
 
 fn attachments_word(attachments: &[Option<Attachment>; ATTACHMENTS]) -> u64
     requires { AllPresent IsAttachment attachments.now }
-    ensures { result ≡ packed 8 (map attachment_byte attachments.now) }
+    ensures { result ≡ packed_word 8 (map attachment_byte attachments.now) }
 {
     let mut word = 0;
     let mut i = ATTACHMENTS;

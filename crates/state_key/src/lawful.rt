@@ -2,24 +2,35 @@
 ghost use Rattle.std.specs.Prelude.{◌≡◌, ◌↔◌, ℕ, ◌<◌, IsTrue, IsSome, IfSome, length};
 ghost use Rattle.std.specs.List.{AllPairs};
 ghost use Rattle.state_key.specs.Distinct.{DiffersFromEarlier};
-ghost use Rattle.state_model.specs.Lawful.{AllPresent, present_at, IsVertexBinding, IsAttribute, IsLayout, IsEntry, HaveDifferentIds, IsSpecValues, IsDepth, IsMultisample, IsAttachment, BindingsAreThere, IsVertexPart, IsPrerastPart, IsFragmentPart, IsOutputPart, Accord, IsLawful, IsViewMask};
+ghost use Rattle.state_model.specs.Lawful.{AllPresent, present_at, IsVertexBinding, IsAttribute, IsLayout, IsEntry, HaveDifferentIds, IsSpecValues, IsDepth, IsMultisample, IsAttachment, BindingsAreThere, IsVertexPart, IsPrerastPart, IsFragmentPart, IsOutputPart, Accord, IsLawful, IsViewMask, MultisamplesAccord};
 
+use limits::{
+    COMPONENTS, DESCRIPTOR_BINDINGS, MAX_OFFSET, MAX_STRIDE, MODULES, PUSH_WORDS, VERTEX_BINDINGS,
+};
+use state_model::format::{FORMAT_R32_UINT, FORMAT_R32G32B32A32_SINT};
+use state_model::vulkan::{
+    COMPARE_OP_ALWAYS, CULL_MODE_FRONT_AND_BACK, LOGIC_OP_SET, SAMPLE_COUNT_1, SAMPLE_COUNT_2,
+    SAMPLE_COUNT_4,
+};
 use state_model::{
-    Attachment, Attribute, BINDINGS, COMPONENTS, Entry, FragmentPart, Layout, MAX_OFFSET,
-    MAX_STRIDE, MODULES, Multisample, OutputPart, PUSH_WORDS, PrerastPart, SpecValues, State,
-    VertexBinding, VertexPart,
+    Attachment, Attribute, Entry, FragmentPart, Layout, Multisample, OutputPart, PrerastPart,
+    SpecValues, State, VIEWS, VertexBinding, VertexPart,
 };
 
 /// What can be lawful.
 pub trait Lawful {
-    /// Whether every field is in its range and the parts accord with each other.
-    fn lawful(&self) -> bool;
+    /// What it is to be lawful.
+    ghost Law: { Self → Type 0 };
+
+    /// Whether it is lawful; a state is where every field is in its range and the parts accord with each other.
+    fn lawful(&self) -> bool
+        ensures { IsTrue result ↔ Law self.now };
 }
 
 impl Lawful for State {
-    fn lawful(&self) -> bool
-        ensures { IsTrue result ↔ IsLawful self.now }
-    {
+    ghost Law = { λ s. IsLawful s };
+
+    fn lawful(&self) -> bool {
         is_vertex_part(&self.vertex)
             && is_prerast_part(&self.prerast)
             && self.fragment.as_ref().is_none_or(is_fragment_part)
@@ -41,7 +52,7 @@ fn is_vertex_part(v: &VertexPart) -> bool
 fn is_attribute(a: Attribute) -> bool
     ensures { IsTrue result ↔ IsAttribute a }
 {
-    usize::from(a.binding) < BINDINGS
+    usize::from(a.binding) < VERTEX_BINDINGS
         && 0 < a.comps
         && usize::from(a.comps) <= COMPONENTS
         && a.offset <= MAX_OFFSET
@@ -56,7 +67,7 @@ fn bindings_are_there(v: &VertexPart) -> bool
         .all(|a| a.is_none_or(|a| has_binding(bindings, a.binding)))
 }
 
-fn has_binding(bindings: &[Option<VertexBinding>; BINDINGS], number: u8) -> bool
+fn has_binding(bindings: &[Option<VertexBinding>; VERTEX_BINDINGS], number: u8) -> bool
     ensures { IsTrue result ↔ IsSome (present_at bindings.now number) }
 {
     bindings
@@ -72,7 +83,7 @@ fn is_prerast_part(p: &PrerastPart) -> bool
     p.module < MODULES
         && is_layout(&p.layout)
         && is_view_mask(p.view_mask)
-        && p.cull <= 3
+        && p.cull <= CULL_MODE_FRONT_AND_BACK
         && are_spec_values(&p.entries)
 }
 
@@ -82,7 +93,7 @@ fn is_fragment_part(f: &FragmentPart) -> bool
     f.module < MODULES
         && is_layout(&f.layout)
         && is_view_mask(f.view_mask)
-        && f.depth.is_none_or(|d| d.compare <= 7)
+        && f.depth.is_none_or(|d| d.compare <= COMPARE_OP_ALWAYS)
         && f.multisample.is_none_or(is_multisample)
         && are_spec_values(&f.entries)
 }
@@ -92,35 +103,37 @@ fn is_output_part(o: &OutputPart) -> bool
 {
     is_view_mask(o.view_mask)
         && is_multisample(o.multisample)
-        && o.logic.is_none_or(|op| op <= 15)
+        && o.logic.is_none_or(|op| op <= LOGIC_OP_SET)
         && o.attachments.iter().all(|a| a.is_none_or(is_attachment))
 }
 
 fn is_view_mask(mask: u8) -> bool
     ensures { IsTrue result ↔ IsViewMask mask }
 {
-    mask < 16
+    mask < 1 << VIEWS
 }
 
 fn is_layout(l: &Layout) -> bool
     ensures { IsTrue result ↔ IsLayout l.now }
 {
     l.push_words <= PUSH_WORDS
-        && l.sets
-            .iter()
-            .all(|set| set.is_none_or(|mask| u32::from(mask) < 256))
+        && l.sets.iter().all(|set| set.is_none_or(|mask| u32::from(mask)
+            < 1 << DESCRIPTOR_BINDINGS))
 }
 
 fn is_multisample(m: Multisample) -> bool
     ensures { IsTrue result ↔ IsMultisample m }
 {
-    (m.samples == 1 || m.samples == 2 || m.samples == 4) && u32::from(m.mask) < 1 << m.samples
+    (m.samples == SAMPLE_COUNT_1 || m.samples == SAMPLE_COUNT_2 || m.samples == SAMPLE_COUNT_4)
+        && u32::from(m.mask) < 1 << m.samples
 }
 
 fn is_attachment(a: Attachment) -> bool
     ensures { IsTrue result ↔ IsAttachment a }
 {
-    0 < a.format && a.format <= 8 && u32::from(a.write_mask) < 1 << ((a.format - 1) % 4 + 1)
+    FORMAT_R32_UINT <= a.format
+        && a.format <= FORMAT_R32G32B32A32_SINT
+        && u32::from(a.write_mask) < 1 << ((a.format - FORMAT_R32_UINT) % COMPONENTS as u8 + 1)
 }
 
 fn are_spec_values(v: &SpecValues) -> bool
@@ -178,7 +191,7 @@ fn accords(s: &State) -> bool
 }
 
 fn multisamples_accord(s: &State) -> bool
-    ensures { IsTrue result ↔ IfSome s.now.fragment (λ f. IfSome f.multisample (λ m. IfSome s.now.output (λ o. m ≡ o.multisample))) }
+    ensures { IsTrue result ↔ MultisamplesAccord s.now.fragment s.now.output }
 {
     let (Some(fragment), Some(output)) = (&s.fragment, &s.output) else {
         return true;

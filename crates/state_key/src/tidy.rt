@@ -4,9 +4,9 @@ ghost use Rattle.state_model.specs.Lawful.{present_at};
 ghost use Rattle.state_model.specs.Canonical.{IsTidy, AreInOrder, Precedes, is_named};
 ghost use Rattle.state_key.specs.Tidy.{BindingsAreNamed, IsWithoutFacing, PrecedesNext};
 
-use state_model::{
-    Attribute, BINDINGS, COPY, Entry, LOCATIONS, PrerastPart, State, Topology, VertexBinding,
-};
+use limits::{LOCATIONS, VERTEX_BINDINGS};
+use state_model::vulkan::{CULL_MODE_NONE, LOGIC_OP_COPY};
+use state_model::{Attribute, Entry, PrerastPart, State, Topology, VertexBinding};
 
 /// Whether the canonical form changes nothing in the state, but for entries that no module declares.
 pub fn is_tidy(state: &State) -> bool
@@ -17,14 +17,14 @@ pub fn is_tidy(state: &State) -> bool
             && f.multisample.is_none())
         && bindings_are_named(&state.vertex.bindings, &state.vertex.attributes)
         && is_without_facing(state.vertex.topology, &state.prerast)
-        && state.output.is_none_or(|o| o.logic != Some(COPY))
+        && state.output.is_none_or(|o| o.logic != Some(LOGIC_OP_COPY))
 }
 
 fn is_without_facing(topology: Topology, p: &PrerastPart) -> bool
     ensures { IsTrue result ↔ IsWithoutFacing topology p.now }
 {
     match topology {
-        Topology::Points => p.cull == 0 && !p.ccw,
+        Topology::Points => p.cull == CULL_MODE_NONE && !p.ccw,
         Topology::Triangles => true,
     }
 }
@@ -59,12 +59,12 @@ fn precedes(a: Option<Entry>, b: Option<Entry>) -> bool
 }
 
 fn bindings_are_named(
-    bindings: &[Option<VertexBinding>; BINDINGS],
+    bindings: &[Option<VertexBinding>; VERTEX_BINDINGS],
     attributes: &[Option<Attribute>; LOCATIONS],
 ) -> bool
     ensures { IsTrue result ↔ BindingsAreNamed bindings.now attributes.now }
 {
-    for number in 0..BINDINGS {
+    for number in 0..VERTEX_BINDINGS {
         if bindings[number].is_some() && !is_named(attributes, number) {
             return false;
         }

@@ -1,19 +1,19 @@
 //! A key read back.
 ghost use Rattle.std.specs.Prelude.{◌≡◌, ◌+◌, ◌*◌, ◌-◌, ◌/◌, ◌%◌, ◌^◌, ◌<◌, ◌≤◌, ℕ, slice_index};
-ghost use Rattle.state_key.specs.Unpacked.{field, flag, digit, binding_of, attribute_of, set_of, layout_of, multisample_of, depth_of, logic_of, attachment_of, entry_of, entries_of, bindings_of, attributes_of, attachments_of, vertex_of, prerast_of, fragment_of, output_of, unpacked};
+ghost use Rattle.state_key.specs.Unpacked.{field, flag, digit, binding_of, attribute_of, set_of, layout_of, multisample_of, depth_of, logic_of, attachment_of, entry_of, entries_of, bindings_of, attributes_of, attachments_of, vertex_of, prerast_of, fragment_of, output_of, unpacked_state};
 
+use limits::{ATTACHMENTS, DESCRIPTOR_SETS, ENTRIES, KEY_WORDS, LOCATIONS, VERTEX_BINDINGS};
 use state_model::{
-    ATTACHMENTS, Attachment, Attribute, BINDINGS, Depth, ENTRIES, Entry, FragmentPart, KEY_WORDS,
-    LOCATIONS, Layout, Multisample, OutputPart, PrerastPart, SETS, SpecValues, State, Topology,
-    VertexBinding, VertexPart,
+    Attachment, Attribute, Depth, Entry, FragmentPart, Layout, Multisample, OutputPart,
+    PrerastPart, SpecValues, State, Topology, VertexBinding, VertexPart,
 };
 
-/// Words for layouts, view mask, multisample state, depth, logic operation and attachments.
+/// KeyWords for layouts, view mask, multisample state, depth, logic operation and attachments.
 pub const FIXED_WORDS: usize = 8;
 /// Where the words of the bindings begin.
 pub const BINDINGS_AT: usize = 4;
 /// Where those of the attributes begin.
-pub const ATTRIBUTES_AT: usize = BINDINGS_AT + BINDINGS;
+pub const ATTRIBUTES_AT: usize = BINDINGS_AT + VERTEX_BINDINGS;
 /// Where those of layouts, view mask, multisample state, depth, logic operation and attachments begin.
 pub const FIXED_AT: usize = ATTRIBUTES_AT + LOCATIONS;
 /// Where the words of the vertex entries begin.
@@ -22,9 +22,9 @@ pub const ENTRIES_AT: usize = FIXED_AT + FIXED_WORDS;
 pub const FRAGMENT_ENTRIES_AT: usize = ENTRIES_AT + ENTRIES;
 
 /// The state that the fields of the key make, lawful or not.
-#[tactic(auto, unfolding(crate::specs::Unpacked::unpacked))]
-pub fn unpacked(key: &[u64; KEY_WORDS]) -> State
-    ensures { result ≡ unpacked key.now }
+#[tactic(auto, unfolding(crate::specs::Unpacked::unpacked_state))]
+pub fn unpacked_state(key: &[u64; KEY_WORDS]) -> State
+    ensures { result ≡ unpacked_state key.now }
 {
     let discard = flag(key[0], 1);
     State {
@@ -83,7 +83,7 @@ fn attribute_of(word: u64) -> Option<Attribute>
 }
 
 fn set_of(defined: u64, masks: u64, set: usize) -> Option<u8>
-    requires { set < SETS }
+    requires { set < DESCRIPTOR_SETS }
     ensures { result ≡ set_of defined masks set }
 {
     (digit(1, defined, set) == 1).then_some(digit(8, masks, set) as u8)
@@ -95,8 +95,8 @@ fn layout_of(word: u64) -> Layout
 {
     let defined = field(word, 16, 16);
     let masks = field(word, 32, 32);
-    let mut sets = [None; SETS];
-    for set in 0..SETS {
+    let mut sets = [None; DESCRIPTOR_SETS];
+    for set in 0..DESCRIPTOR_SETS {
         sets[set] = set_of(defined, masks, set);
     }
     Layout {
@@ -168,11 +168,11 @@ fn entries_of(key: &[u64; KEY_WORDS], at: usize, count: u64) -> SpecValues
 }
 
 #[tactic(auto, unfolding(crate::specs::Unpacked::bindings_of))]
-fn bindings_of(key: &[u64; KEY_WORDS]) -> [Option<VertexBinding>; BINDINGS]
+fn bindings_of(key: &[u64; KEY_WORDS]) -> [Option<VertexBinding>; VERTEX_BINDINGS]
     ensures { result ≡ bindings_of key.now }
 {
-    let mut bindings = [None; BINDINGS];
-    for i in 0..BINDINGS {
+    let mut bindings = [None; VERTEX_BINDINGS];
+    for i in 0..VERTEX_BINDINGS {
         bindings[i] = binding_of(key[BINDINGS_AT + i]);
     }
     bindings

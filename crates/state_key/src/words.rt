@@ -1,18 +1,18 @@
 //! A key as it is written, word by word.
 ghost use Rattle.std.specs.Prelude.{◌≡◌, ◌+◌, ◌≤◌, ◌<◌, List, ℕ, [], ◌∷◌, ◌++◌, take, length};
-ghost use Rattle.state_model.specs.declared.TheConstants.{KEY_WORDS};
+ghost use Rattle.limits.specs.declared.TheConstants.{KEY_WORDS};
 
-use state_model::KEY_WORDS;
+use limits::KEY_WORDS;
 use std::marker::Model;
 
 /// The words of a key so far.
 #[derive(Drop)]
-pub struct Words {
+pub struct KeyWords {
     words: [u64; KEY_WORDS],
     len: usize,
 }
 
-impl Model for Words {
+impl Model for KeyWords {
     ghost Value = { List ℕ };
 
     ghost view = { λ w. take w.len w.words };
@@ -20,16 +20,18 @@ impl Model for Words {
     ghost invariant = { λ w. w.len ≤ KEY_WORDS };
 }
 
-impl Words {
-    pub fn new() -> Words
+impl KeyWords {
+    /// No words yet.
+    pub fn new() -> KeyWords
         ensures { result ≡ [] }
     {
-        Words {
+        KeyWords {
             words: [0; KEY_WORDS],
             len: 0,
         }
     }
 
+    /// The next word.
     pub fn push(&mut self, word: u64)
         requires { length self.old < KEY_WORDS }
         ensures { self.new ≡ self.old ++ word ∷ [] }

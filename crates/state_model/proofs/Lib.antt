@@ -1,1 +1,3 @@
-mod Rows
+mod KeyWords
+mod Links
+mod Numbers

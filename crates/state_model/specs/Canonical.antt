@@ -4,7 +4,8 @@ use Rattle.std.specs.Prelude.{◌≡◌, ◌≢◌, ◌==◌, ◌↔◌, ℕ, �
 use Rattle.std.specs.List.{AllPairs, Contains, list_any, range_with_len}
 use Rattle.std.specs.Option.{option_map, option_map_or}
 use Rattle.state_model.specs.Lawful.{present_at}
-use Rattle.state_model.specs.declared.TheConstants.{BINDINGS, COPY}
+use Rattle.limits.specs.declared.TheConstants.{VERTEX_BINDINGS}
+use Rattle.state_model.specs.declared.vulkan.TheConstants.{CULL_MODE_NONE, LOGIC_OP_COPY}
 use Rattle.state_model.specs.declared.parts.Topology.{Topology}
 use Rattle.state_model.specs.declared.parts.Topology.TheVariants.{Points, Triangles}
 use Rattle.state_model.specs.declared.parts.VertexBinding.{VertexBinding}
@@ -47,7 +48,7 @@ pub record IsCanonicalVertex (old new : VertexPart) : Type 0 where
 -- points have no facing: they aren't culled and have no winding
 pub record IsCanonicalPrerast (ids : List ℕ) (topology : Topology) (old new : PrerastPart) : Type 0 where
   pub entries : KeepsDeclared ids old.entries.entries new.entries.entries
-  pub points : topology ≡ Points → (new.cull ≡ 0) × (new.ccw ≡ false)
+  pub points : topology ≡ Points → (new.cull ≡ CULL_MODE_NONE) × (new.ccw ≡ false)
   pub triangles : topology ≡ Triangles → (new.cull ≡ old.cull) × (new.ccw ≡ old.ccw)
   pub rest : new ≡ record old { cull = new.cull; ccw = new.ccw; entries = new.entries }
 
@@ -59,8 +60,8 @@ pub record IsCanonicalFragment (ids : List ℕ) (old new : FragmentPart) : Type 
 
 -- COPY is what is done without a logic operation
 pub record IsCanonicalOutput (old new : OutputPart) : Type 0 where
-  pub copy : old.logic ≡ Some COPY → IsNone new.logic
-  pub others : old.logic ≢ Some COPY → new.logic ≡ old.logic
+  pub copy : old.logic ≡ Some LOGIC_OP_COPY → IsNone new.logic
+  pub others : old.logic ≢ Some LOGIC_OP_COPY → new.logic ≡ old.logic
   pub rest : new ≡ record old { logic = new.logic }
 
 -- both are absent, or both are there and related
@@ -80,9 +81,9 @@ pub record IsTidy (s : State) : Type 0 where
   pub vertex_entries : AreInOrder s.prerast.entries.entries
   pub fragment_entries : IfSome s.fragment (λ f. AreInOrder f.entries.entries)
   pub bindings : (number : ℕ) → IsSome (present_at s.vertex.bindings number) → IsTrue (is_named s.vertex.attributes number)
-  pub points : s.vertex.topology ≡ Points → (s.prerast.cull ≡ 0) × (s.prerast.ccw ≡ false)
+  pub points : s.vertex.topology ≡ Points → (s.prerast.cull ≡ CULL_MODE_NONE) × (s.prerast.ccw ≡ false)
   pub multisample : IfSome s.fragment (λ f. IsNone f.multisample)
-  pub logic : IfSome s.output (λ o. o.logic ≢ Some COPY)
+  pub logic : IfSome s.output (λ o. o.logic ≢ Some LOGIC_OP_COPY)
 
 -- the same state, computed
 
@@ -113,10 +114,10 @@ canonical_entries ids v = record { entries = in_order (map (if_declared ids) v.e
 abbrev pub canonical_vertex : VertexPart → VertexPart
 canonical_vertex v =
     let kept = λ (number : ℕ). if is_named v.attributes number then present_at v.bindings number else None
-    in record v { bindings = map kept (range_with_len 0 BINDINGS) }
+    in record v { bindings = map kept (range_with_len 0 VERTEX_BINDINGS) }
 
 abbrev pub canonical_prerast : List ℕ → Topology → PrerastPart → PrerastPart
-canonical_prerast ids Points p = record p { cull = 0; ccw = false; entries = canonical_entries ids p.entries }
+canonical_prerast ids Points p = record p { cull = CULL_MODE_NONE; ccw = false; entries = canonical_entries ids p.entries }
 canonical_prerast ids Triangles p = record p { entries = canonical_entries ids p.entries }
 
 abbrev pub canonical_fragment : List ℕ → FragmentPart → FragmentPart
@@ -124,7 +125,7 @@ canonical_fragment ids f = record f { multisample = None; entries = canonical_en
 
 abbrev pub without_copy : Option ℕ → Option ℕ
 without_copy None = None
-without_copy (Some op) = if op == COPY then None else Some op
+without_copy (Some op) = if op == LOGIC_OP_COPY then None else Some op
 
 abbrev pub canonical_output : OutputPart → OutputPart
 canonical_output o = record o { logic = without_copy o.logic }

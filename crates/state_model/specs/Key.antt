@@ -20,7 +20,7 @@
 use Rattle.std.specs.Prelude.{ℕ, ◌+◌, ◌*◌, ◌^◌, Bool, cond, List, [], ◌∷◌, ◌++◌, Option, Some, None, map, replicate, is_some, unwrap_or}
 use Rattle.std.specs.List.{count_by}
 use Rattle.std.specs.Option.{option_map_or, option_and_then}
-use Rattle.state_model.specs.declared.TheConstants.{ENTRIES}
+use Rattle.limits.specs.declared.TheConstants.{ENTRIES}
 use Rattle.state_model.specs.declared.parts.Topology.{Topology}
 use Rattle.state_model.specs.declared.parts.Topology.TheVariants.{Points, Triangles}
 use Rattle.state_model.specs.declared.parts.VertexBinding.{VertexBinding}
@@ -38,9 +38,9 @@ abbrev pub bit : Bool → ℕ
 bit b = cond b 1 0
 
 -- values of so many bits each, the first lowest
-abbrev pub packed : ℕ → List ℕ → ℕ
-packed bits [] = 0
-packed bits (x ∷ xs) = x + 2 ^ bits * packed bits xs
+abbrev pub packed_word : ℕ → List ℕ → ℕ
+packed_word bits [] = 0
+packed_word bits (x ∷ xs) = x + 2 ^ bits * packed_word bits xs
 
 -- bit 0 there, bit 1 per instance, high half stride
 abbrev pub binding_word : Option VertexBinding → ℕ
@@ -55,8 +55,8 @@ attribute_word (Some a) = 1 + 2 * bit a.signed + 2 ^ 4 * a.comps + 2 ^ 8 * a.bin
 -- bit 0 independent, bits 8 to 15 push words, bit 16 + s set s defined, bits 32 + 8s to 39 + 8s its mask
 abbrev pub layout_word : Layout → ℕ
 layout_word l =
-    bit l.independent + 2 ^ 8 * l.push_words + 2 ^ 16 * packed 1 (map (λ set. bit (is_some set)) l.sets)
-    + 2 ^ 32 * packed 8 (map (λ set. unwrap_or set 0) l.sets)
+    bit l.independent + 2 ^ 8 * l.push_words + 2 ^ 16 * packed_word 1 (map (λ set. bit (is_some set)) l.sets)
+    + 2 ^ 32 * packed_word 8 (map (λ set. unwrap_or set 0) l.sets)
 
 -- bits 0 to 2 samples, bits 4 to 7 mask
 abbrev pub multisample_word : Multisample → ℕ
@@ -79,7 +79,7 @@ attachment_byte (Some a) = a.format + 2 ^ 4 * a.write_mask
 
 -- attachment i in byte i
 abbrev pub attachments_word : OutputPart → ℕ
-attachments_word o = packed 8 (map attachment_byte o.attachments)
+attachments_word o = packed_word 8 (map attachment_byte o.attachments)
 
 -- id in the high half, value in the low
 abbrev pub entry_word : Option Entry → ℕ

@@ -1,10 +1,10 @@
 -- Linking pipeline libraries: the ten rules, each a condition on the lists of libraries that are given, and the state
 -- that they make.
-use Rattle.std.specs.Prelude.{ℕ, ◌==◌, Bool, true, false, cond, not, ◌&&◌, ◌||◌, nat_lt, List, [], ◌∷◌, ◌++◌, Option, Some, None, map, length, if◌then◌else◌}
+use Rattle.std.specs.Prelude.{◌≡◌, ℕ, ◌==◌, Bool, true, false, cond, not, ◌&&◌, ◌||◌, nat_lt, List, [], ◌∷◌, ◌++◌, Option, Some, None, map, length, if◌then◌else◌}
 use Rattle.std.specs.List.{find, list_any, range_with_len}
 use Rattle.std.specs.Option.{option_and_then, option_map, option_map_or}
 use Rattle.state_model.specs.Lawful.{present_at}
-use Rattle.state_model.specs.declared.TheConstants.{LOCATIONS, SETS}
+use Rattle.limits.specs.declared.TheConstants.{LOCATIONS, DESCRIPTOR_SETS}
 use Rattle.state_model.specs.declared.iface.Slot.{Slot}
 use Rattle.state_model.specs.declared.iface.Iface.{Iface}
 use Rattle.state_model.specs.declared.parts.Attribute.{Attribute}
@@ -95,7 +95,7 @@ clash (Some a) (Some b) = differ a b
 
 -- whether the test holds of the two layouts' masks of some set
 abbrev pub some_set : (Option ℕ → Option ℕ → Bool) → Layout → Layout → Bool
-some_set test a b = list_any (λ set. test (present_at a.sets set) (present_at b.sets set)) (range_with_len 0 SETS)
+some_set test a b = list_any (λ set. test (present_at a.sets set) (present_at b.sets set)) (range_with_len 0 DESCRIPTOR_SETS)
 
 -- both flags are off and the layouts differ; or both are on, and the push sizes differ or a set that both define differs
 unfoldable pub disagree : Layout → Layout → Bool
@@ -161,23 +161,27 @@ lacks_retained libs =
     || list_any (λ f. not f.part.retain) libs.fragment || list_any (λ o. not o.retain) libs.output
 
 -- the rule where it fails, else what comes after it
-unfoldable pub fails : Bool → Rule → Option Rule → Option Rule
-fails failed rule later = if failed then Some rule else later
+unfoldable pub rule_if : Bool → Rule → Option Rule → Option Rule
+rule_if failed rule later = if failed then Some rule else later
 
-unfoldable pub fails_at : Option ℕ → (ℕ → Rule) → Option Rule → Option Rule
-fails_at None rule later = later
-fails_at (Some location) rule later = Some (rule location)
+unfoldable pub rule_at : Option ℕ → (ℕ → Rule) → Option Rule → Option Rule
+rule_at None rule later = later
+rule_at (Some location) rule later = Some (rule location)
 
 -- the first of the rules from L3 on that fails
-unfoldable pub refuses_contents : Libraries → Bool → Option Rule
-refuses_contents libs optimise =
-    fails (has_unused_subset libs) L3 (fails (independence_differs libs) L4 (fails (layouts_disagree libs) L5
-    (fails (view_masks_differ libs) L6 (fails (multisample_differs libs) L7 (fails_at (unfed_input libs) L8
-    (fails_at (misfed_input libs) L9 (fails (optimise && lacks_retained libs) L10 None)))))))
+unfoldable pub failed_content_rule : Libraries → Bool → Option Rule
+failed_content_rule libs optimise =
+    rule_if (has_unused_subset libs) L3 (rule_if (independence_differs libs) L4 (rule_if (layouts_disagree libs) L5
+    (rule_if (view_masks_differ libs) L6 (rule_if (multisample_differs libs) L7 (rule_at (unfed_input libs) L8
+    (rule_at (misfed_input libs) L9 (rule_if (optimise && lacks_retained libs) L10 None)))))))
 
 -- the first rule that fails, by number; L10 counts for an optimized link alone
-unfoldable pub refuses : Libraries → Bool → Option Rule
-refuses libs optimise = fails (lacks_subset libs) L1 (fails (repeats_subset libs) L2 (refuses_contents libs optimise))
+unfoldable pub failed_rule : Libraries → Bool → Option Rule
+failed_rule libs optimise = rule_if (lacks_subset libs) L1 (rule_if (repeats_subset libs) L2 (failed_content_rule libs optimise))
+
+-- they link; L10 isn't asked for
+abbrev pub Links : Libraries → Type 0
+Links libs = failed_rule libs false ≡ None
 
 abbrev pub first : {X : Type 0} → List X → Option X
 first [] = None

@@ -1,9 +1,11 @@
-use crate::{ATTACHMENTS, BINDINGS, ENTRIES, LOCATIONS, SETS};
+use limits::{ATTACHMENTS, DESCRIPTOR_SETS, ENTRIES, LOCATIONS, VERTEX_BINDINGS};
 
 /// `VkPrimitiveTopology`, point list or triangle list.
 #[derive(Clone, Copy, Debug, PartialEq, Eq)]
 pub enum Topology {
+    /// `VK_PRIMITIVE_TOPOLOGY_POINT_LIST`.
     Points,
+    /// `VK_PRIMITIVE_TOPOLOGY_TRIANGLE_LIST`.
     Triangles,
 }
 
@@ -23,6 +25,7 @@ pub struct Attribute {
     pub binding: u8,
     /// Components, 1 to 4.
     pub comps: u8,
+    /// Whether the components are signed.
     pub signed: bool,
     /// In 32-bit words, 0 to 1023.
     pub offset: u32,
@@ -36,7 +39,7 @@ pub struct Layout {
     /// 32-bit words of push constants, 0 to 32.
     pub push_words: u8,
     /// For each set that is defined, the mask of its bindings.
-    pub sets: [Option<u8>; SETS],
+    pub sets: [Option<u8>; DESCRIPTOR_SETS],
 }
 
 /// A specialization constant's value.
@@ -44,27 +47,30 @@ pub struct Layout {
 pub struct Entry {
     /// The `SpecId`.
     pub id: u32,
+    /// The constant's 32 bits.
     pub value: u32,
 }
 
 /// The specialization constants of one stage.
 #[derive(Clone, Copy, Debug, PartialEq, Eq)]
 pub struct SpecValues {
+    /// No two with one id.
     pub entries: [Option<Entry>; ENTRIES],
 }
 
 /// The depth test.
 #[derive(Clone, Copy, Debug, PartialEq, Eq)]
 pub struct Depth {
-    /// `VkCompareOp`, 0 to 7.
+    /// One of the `COMPARE_OP`s of `vulkan`.
     pub compare: u8,
+    /// Whether a depth that passes is stored (`depthWriteEnable`).
     pub write: bool,
 }
 
 /// The multisample state.
 #[derive(Clone, Copy, Debug, PartialEq, Eq)]
 pub struct Multisample {
-    /// 1, 2 or 4.
+    /// One of the `SAMPLE_COUNT`s of `vulkan`.
     pub samples: u8,
     /// Bit i for sample i; below 2 to the number of samples.
     pub mask: u8,
@@ -73,7 +79,7 @@ pub struct Multisample {
 /// One colour attachment.
 #[derive(Clone, Copy, Debug, PartialEq, Eq)]
 pub struct Attachment {
-    /// 1 to 4 are unsigned with so many components, 5 to 8 signed with 1 to 4.
+    /// One of the `FORMAT`s of `format`.
     pub format: u8,
     /// Bit i for component i; below 2 to the number of components.
     pub write_mask: u8,
@@ -84,8 +90,10 @@ pub struct Attachment {
 pub struct VertexPart {
     /// Whether link time optimization information is retained.
     pub retain: bool,
+    /// How vertices make primitives.
     pub topology: Topology,
-    pub bindings: [Option<VertexBinding>; BINDINGS],
+    /// By the bindings' numbers.
+    pub bindings: [Option<VertexBinding>; VERTEX_BINDINGS],
     /// By location.
     pub attributes: [Option<Attribute>; LOCATIONS],
 }
@@ -97,15 +105,17 @@ pub struct PrerastPart {
     pub retain: bool,
     /// The vertex module's number, below 64.
     pub module: u32,
+    /// What the shader's descriptors and push constants are declared as.
     pub layout: Layout,
     /// Bit i for view i, below 16.
     pub view_mask: u8,
     /// `rasterizerDiscardEnable`.
     pub discard: bool,
-    /// `VkCullModeFlags`: 1 front, 2 back.
+    /// One of the `CULL_MODE`s of `vulkan`.
     pub cull: u8,
     /// Whether counter-clockwise triangles are front-facing.
     pub ccw: bool,
+    /// The values of the module's specialization constants.
     pub entries: SpecValues,
 }
 
@@ -116,11 +126,15 @@ pub struct FragmentPart {
     pub retain: bool,
     /// The fragment module's number, below 64.
     pub module: u32,
+    /// What the shader's descriptors and push constants are declared as.
     pub layout: Layout,
     /// Bit i for view i, below 16.
     pub view_mask: u8,
+    /// The depth test, where it is enabled.
     pub depth: Option<Depth>,
+    /// Where it is there, that of the fragment output interface.
     pub multisample: Option<Multisample>,
+    /// The values of the module's specialization constants.
     pub entries: SpecValues,
 }
 
@@ -131,8 +145,9 @@ pub struct OutputPart {
     pub retain: bool,
     /// Bit i for view i, below 16.
     pub view_mask: u8,
+    /// The samples of each pixel, and which of them are written.
     pub multisample: Multisample,
-    /// `VkLogicOp`, 0 to 15, where logic operations are enabled.
+    /// One of the `LOGIC_OP`s of `vulkan`, where logic operations are enabled.
     pub logic: Option<u8>,
     /// By location.
     pub attachments: [Option<Attachment>; ATTACHMENTS],
@@ -141,8 +156,12 @@ pub struct OutputPart {
 /// The whole state of a graphics pipeline.
 #[derive(Clone, Copy, Debug, PartialEq, Eq)]
 pub struct State {
+    /// Which vertices there are, and what they read.
     pub vertex: VertexPart,
+    /// The vertex shader and rasterization.
     pub prerast: PrerastPart,
+    /// Where rasterization isn't discarded.
     pub fragment: Option<FragmentPart>,
+    /// Where rasterization isn't discarded.
     pub output: Option<OutputPart>,
 }

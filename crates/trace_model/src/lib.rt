@@ -6,5 +6,5 @@ mod serve;
 mod trace;
 
 pub use modules::{COLOUR_MODULE, COLOUR_PLACE, POINT_MODULE, X_PLACE, Z_PLACE};
-pub use serve::{KEY_WORDS, Serve};
+pub use serve::Serve;
 pub use trace::{Cause, SIDE_LIMIT, TRACE_LIMIT, Trace, TraceFault};

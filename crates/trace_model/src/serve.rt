@@ -1,5 +1,4 @@
-/// A key has this many words.
-pub const KEY_WORDS: usize = 56;
+use limits::KEY_WORDS;
 
 /// One draw that was served a pipeline.
 #[derive(Clone, Copy, Debug, Drop, PartialEq, Eq)]
@@ -9,7 +8,7 @@ pub struct Serve {
     pub draw: u32,
     /// The row of its instance.
     pub row: u32,
-    pub key: [u64; 56],
+    pub key: [u64; KEY_WORDS],
     /// The optimised modules ran, and not those of the libraries.
     pub optimised: bool,
     /// How many instructions were run.

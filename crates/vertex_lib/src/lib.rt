@@ -3,15 +3,16 @@
 
 ghost use Rattle.std.specs.Prelude.{◌≡◌, ◌<◌, ◌≤◌, IfSome, ℕ, ◌+◌, ◌*◌, ◌^◌};
 ghost use Rattle.state_model.specs.Lawful.{IsVertexPart, IsVertexBinding, IsAttribute};
-ghost use Rattle.draw_model.specs.Fetch.{fetched, buffer_word, attribute_start, attribute_component, components};
+ghost use Rattle.draw_model.specs.Fetch.{input_at, buffer_word, attribute_start, attribute_component, components};
 
-use limits::{COMPONENTS, LOCATIONS};
+use limits::{COMPONENTS, LOCATIONS, VERTEX_BINDINGS};
 use state_model::{Attribute, VertexBinding};
-pub use state_model::{BINDINGS, Buffers, VertexPart};
+pub use state_model::{Buffers, VertexPart};
 
 /// A vertex input interface library.
 #[derive(Clone, Copy, Debug, PartialEq, Eq)]
 pub struct VertexLib {
+    /// The state that it has.
     pub part: VertexPart,
 }
 
@@ -23,25 +24,22 @@ impl VertexLib {
         VertexLib { part }
     }
 
-    /// What the vertex shader's input at `location` gets for a vertex of an instance (Vulkan, "Vertex Input
-    /// Address Calculation", in 32-bit words). `bound` names the buffer of each binding. A word past a buffer's end or
-    /// without a buffer is 0, and so are an attribute that is absent and the components that it lacks.
     /// The four words that the vertex shader's input at a location reads for a vertex of an instance, from the buffers that
     /// are bound by their numbers (Vulkan, "Vertex Input Address Calculation"). Strides and offsets are in 32-bit words. A
     /// word out of its buffer, or without a buffer, is 0, and so are the components that the attribute lacks and all four
     /// where there is no attribute.
-    #[tactic(auto, unfolding(draw_model::specs::Fetch::fetched))]
+    #[tactic(auto, unfolding(draw_model::specs::Fetch::input_at))]
     pub fn fetch(
         &self,
         buffers: &Buffers,
-        bound: &[Option<u16>; BINDINGS],
+        bound: &[Option<u16>; VERTEX_BINDINGS],
         location: u8,
         vertex: u32,
         instance: u32,
     ) -> [u32; COMPONENTS]
         requires location { location < LOCATIONS }
         requires part { IsVertexPart self.now.part }
-        ensures { result ≡ fetched self.now.part buffers.now bound.now location vertex instance }
+        ensures { result ≡ input_at self.now.part buffers.now bound.now location vertex instance }
     {
         let Some(attribute) = self.part.attributes[usize::from(location)] else {
             return [0; COMPONENTS];
@@ -113,7 +111,7 @@ mod tests {
     fn part() -> VertexPart
         ensures { IsVertexPart result }
     {
-        let mut bindings = [None; BINDINGS];
+        let mut bindings = [None; VERTEX_BINDINGS];
         bindings[1] = Some(VertexBinding {
             stride: 2,
             per_instance: true,
@@ -148,7 +146,7 @@ mod tests {
             [0; 4]
         );
         assert_eq!(rt;
-            library.fetch(&buffers, &[Some(0); BINDINGS], 2, 0, 0),
+            library.fetch(&buffers, &[Some(0); VERTEX_BINDINGS], 2, 0, 0),
             [0; 4]
         );
         Ok(())

@@ -7,4 +7,4 @@ pub returns-in-Some-clause-bound : goal.returns-in-Some-clause-bound
 returns-in-Some-clause-bound c =
     let lawful : IsAttachment c.in-Some.a = rw c.in-Some.is at c.requires in
     let small = write_mask_small c.in-Some.a lawful in
-    omega (arith, lawful.format)
+    omega (arith, lawful.last_format)

@@ -1,6 +1,6 @@
 use Rattle.std.proofs.Common.{lit≤, rules}
 use Rattle.state_model.specs.Key.{attachment_byte}
-use Rattle.state_model.specs.declared.TheConstants.{ATTACHMENTS}
+use Rattle.limits.specs.declared.TheConstants.{ATTACHMENTS}
 use Rattle.state_key.proofs.Packing.{Packs-start, Packs-next, Packs-room}
 use Rattle.state_key.proofs.key.attachments_word.Goals as goal
 

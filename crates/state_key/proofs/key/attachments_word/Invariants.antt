@@ -1,5 +1,5 @@
 use Rattle.state_model.specs.Key.{attachment_byte}
-use Rattle.state_model.specs.declared.TheConstants.{ATTACHMENTS}
+use Rattle.limits.specs.declared.TheConstants.{ATTACHMENTS}
 use Rattle.state_key.proofs.Packing.{Packs}
 use Rattle.state_key.proofs.key.attachments_word.Given as goal
 

@@ -1,7 +1,7 @@
 use Rattle.std.proofs.Common.{None, rules}
 use Rattle.std.proofs.lemmas.List.FromFn.{fill_by_all}
 use Rattle.state_key.specs.Unpacked.{attachment_at, attachments_of}
-use Rattle.state_model.specs.declared.TheConstants.{ATTACHMENTS}
+use Rattle.limits.specs.declared.TheConstants.{ATTACHMENTS}
 use Rattle.state_key.proofs.unpack.attachments_of.Goals as goal
 
 pub returns : goal.returns

@@ -1,6 +1,6 @@
 use Rattle.std.proofs.Common.{◌≡◌, ℕ, ◌<◌, Option, length, get_or}
 use Rattle.state_key.specs.Unpacked.{attachment_at}
-use Rattle.state_model.specs.declared.TheConstants.{ATTACHMENTS}
+use Rattle.limits.specs.declared.TheConstants.{ATTACHMENTS}
 use Rattle.state_model.specs.declared.parts.Attachment.{Attachment}
 use Rattle.state_key.proofs.unpack.attachments_of.Given as goal
 

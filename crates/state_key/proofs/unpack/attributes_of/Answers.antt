@@ -1,7 +1,7 @@
 use Rattle.std.proofs.Common.{None, rules}
 use Rattle.std.proofs.lemmas.List.FromFn.{fill_by_all}
 use Rattle.state_key.specs.Unpacked.{attribute_at, attributes_of}
-use Rattle.state_model.specs.declared.TheConstants.{LOCATIONS}
+use Rattle.limits.specs.declared.TheConstants.{LOCATIONS}
 use Rattle.state_key.proofs.unpack.attributes_of.Goals as goal
 
 pub returns : goal.returns

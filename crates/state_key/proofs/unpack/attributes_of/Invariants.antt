@@ -1,6 +1,6 @@
 use Rattle.std.proofs.Common.{◌≡◌, ℕ, ◌<◌, Option, length, get_or}
 use Rattle.state_key.specs.Unpacked.{attribute_at}
-use Rattle.state_model.specs.declared.TheConstants.{LOCATIONS}
+use Rattle.limits.specs.declared.TheConstants.{LOCATIONS}
 use Rattle.state_model.specs.declared.parts.Attribute.{Attribute}
 use Rattle.state_key.proofs.unpack.attributes_of.Given as goal
 

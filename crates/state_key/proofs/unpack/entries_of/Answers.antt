@@ -1,7 +1,7 @@
 use Rattle.std.proofs.Common.{List, Option, None, ap, rules}
 use Rattle.std.proofs.lemmas.List.FromFn.{fill_by_all}
 use Rattle.state_key.specs.Unpacked.{entry_at, entries_of}
-use Rattle.state_model.specs.declared.TheConstants.{ENTRIES}
+use Rattle.limits.specs.declared.TheConstants.{ENTRIES}
 use Rattle.state_model.specs.declared.parts.Entry.{Entry}
 use Rattle.state_model.specs.declared.parts.SpecValues.{SpecValues}
 use Rattle.state_key.proofs.unpack.entries_of.Goals as goal

@@ -1,6 +1,6 @@
 use Rattle.std.proofs.Common.{◌≡◌, ℕ, ◌<◌, Option, length, get_or}
 use Rattle.state_key.specs.Unpacked.{entry_at}
-use Rattle.state_model.specs.declared.TheConstants.{ENTRIES}
+use Rattle.limits.specs.declared.TheConstants.{ENTRIES}
 use Rattle.state_model.specs.declared.parts.Entry.{Entry}
 use Rattle.state_key.proofs.unpack.entries_of.Given as goal
 

@@ -2,14 +2,14 @@ use Rattle.std.proofs.Common.{◌≡◌, ◌≤◌, false, List, length, arith, 
 use Rattle.std.specs.List.{slice_get}
 use Rattle.state_model.specs.Link.{lacks_subset, repeats_subset, Libraries}
 use Rattle.link_rules.specs.Libs.{libraries}
-use Rattle.link_rules.specs.One.{prerast_library, fragment_library}
+use Rattle.link_rules.specs.Single.{prerast_library, fragment_library}
 use Rattle.link_rules.specs.declared.Libs.{Libs}
 use Rattle.vertex_lib.specs.declared.VertexLib.{VertexLib}
 use Rattle.prerast_lib.specs.declared.PrerastLib.{PrerastLib}
 use Rattle.fragment_lib.specs.declared.FragmentLib.{FragmentLib}
 use Rattle.output_lib.specs.declared.OutputLib.{OutputLib}
 use Rattle.link_rules.proofs.Lists.{sole, short_list, or_parts, some_given, given_once}
-use Rattle.link_rules.proofs.counts.one_of.Goals as goal
+use Rattle.link_rules.proofs.counts.single_of.Goals as goal
 
 record Counts (libs : Libs) : Type 0 where
   vertex : length libs.vertex.items ≡ 1
