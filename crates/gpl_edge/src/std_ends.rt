@@ -1,9 +1,10 @@
 //! Standard input and output as a source and a sink.
-ghost use Rattle.std.specs.Prelude.{◌≡◌, ◌<◌, ◌≤◌, length, take, IfOk, OnOk, OnErr};
+ghost use Rattle.std.specs.Prelude.{◌≡◌, ◌<◌, ◌≤◌, length, IfOk, OnOk, OnErr};
 ghost use Rattle.std.specs.Io.{ReadsAtMost, WritesAtMost};
-ghost use Rattle.std.specs.Io.KnownBytes.{Appends, Consumes, IsAtEnd, Keeps};
-ghost use Rattle.gpl_edge.specs.Faults.{Rose, count_after};
-ghost use Rattle.gpl_edge.specs.StdEnds.{source_reader, source_errors, sink_writer, sink_errors};
+ghost use Rattle.basics.specs.Count.{Rose, CountsOne};
+ghost use Rattle.gpl_edge.specs.Ends.{GivesFront, GivesNoneAtEnd, TakesFront, KeepsBytes};
+ghost use Rattle.gpl_edge.specs.StdEnds.{source_reader, source_errors, left_by};
+ghost use Rattle.gpl_edge.specs.StdEnds.{sink_writer, sink_errors, held_by};
 
 use crate::ends::{Failed, Sink, Source};
 use std::io::{Read, Write};
@@ -28,22 +29,21 @@ impl<R: Read> StdSource<R> {
 }
 
 impl<R: Read> Source for StdSource<R> {
-    ghost left = { λ s. R.remaining (source_reader s) };
+    ghost left = { left_by R.remaining };
 
     ghost faults = { source_errors };
 
     fn read(&mut self, buf: &mut [u8]) -> Result<usize, Failed>
         ensures within { ReadsAtMost result buf.new }
-        ensures gives { IfOk result (λ n.
-            Consumes (R.remaining (source_reader self.old)) (R.remaining (source_reader self.new)) (take n buf.new)) }
-        ensures end { IfOk result (λ n. n ≡ 0 → 0 < length buf.new → IsAtEnd (R.remaining (source_reader self.new))) }
-        ensures stays { OnErr result (Keeps (R.remaining (source_reader self.old)) (R.remaining (source_reader self.new))) }
+        ensures gives { IfOk result (GivesFront (left_by R.remaining) self.old self.new buf.new) }
+        ensures end { IfOk result (GivesNoneAtEnd (left_by R.remaining) self.new buf.new) }
+        ensures stays { OnErr result (KeepsBytes (left_by R.remaining) self.old self.new) }
         ensures never_falls { source_errors self.old ≤ source_errors self.new }
         ensures failed { OnErr result (Rose (source_errors self.old) (source_errors self.new)) }
         ensures unraised { OnOk result (source_errors self.new ≡ source_errors self.old) }
 
         // Beside the trait's: an error is one fault.
-        ensures counted { OnErr result (source_errors self.new ≡ count_after (source_errors self.old)) }
+        ensures counted { OnErr result (CountsOne (source_errors self.old) (source_errors self.new)) }
     {
         match self.input.read(buf) {
             Ok(n) => Ok(n),
@@ -76,22 +76,21 @@ impl<W: Write> StdSink<W> {
 }
 
 impl<W: Write> Sink for StdSink<W> {
-    ghost held = { λ s. W.contents (sink_writer s) };
+    ghost held = { held_by W.contents };
 
     ghost faults = { sink_errors };
 
     fn write(&mut self, piece: &[u8]) -> Result<usize, Failed>
         ensures within { WritesAtMost result piece.now }
         ensures some { IfOk result (λ n. 0 < length piece.now → 0 < n) }
-        ensures appends { IfOk result (λ n.
-            Appends (W.contents (sink_writer self.old)) (W.contents (sink_writer self.new)) (take n piece.now)) }
-        ensures stays { OnErr result (Keeps (W.contents (sink_writer self.old)) (W.contents (sink_writer self.new))) }
+        ensures appends { IfOk result (TakesFront (held_by W.contents) self.old self.new piece.now) }
+        ensures stays { OnErr result (KeepsBytes (held_by W.contents) self.old self.new) }
         ensures never_falls { sink_errors self.old ≤ sink_errors self.new }
         ensures failed { OnErr result (Rose (sink_errors self.old) (sink_errors self.new)) }
         ensures unraised { OnOk result (sink_errors self.new ≡ sink_errors self.old) }
 
         // Beside the trait's: an error is one fault.
-        ensures counted { OnErr result (sink_errors self.new ≡ count_after (sink_errors self.old)) }
+        ensures counted { OnErr result (CountsOne (sink_errors self.old) (sink_errors self.new)) }
     {
         match self.output.write(piece) {
             Ok(n) if n > 0 || piece.is_empty() => Ok(n),
