@@ -12,8 +12,8 @@ module _ {S : Type 0} (bytes : S → Option (List ℕ)) where
   GivesNoneAtEnd new buffer n = n ≡ 0 → 0 < length buffer → IsAtEnd (bytes new)
 
   -- the sink holds the first n bytes of the piece after all that it held
-  abbrev pub TakesFront : S → S → List ℕ → ℕ → Type 0
-  TakesFront old new piece n = Appends (bytes old) (bytes new) (take n piece)
+  abbrev pub AddsFront : S → S → List ℕ → ℕ → Type 0
+  AddsFront old new piece n = Appends (bytes old) (bytes new) (take n piece)
 
   -- a source has left, or a sink holds, what it did
   abbrev pub KeepsBytes : S → S → Type 0

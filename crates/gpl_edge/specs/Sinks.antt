@@ -1,5 +1,6 @@
 -- What clauses see of a sink over memory, and what one write makes of it.
-use Rattle.std.specs.Prelude.{◌≡◌, ℕ, ◌-◌, ◌<◌, ◌++◌, ◌⊎◌, List, [], Option, Some, length, min, Contains}
+use Rattle.std.specs.Prelude.{◌≡◌, ℕ, ◌-◌, ◌<◌, ◌⊎◌, min}
+use Rattle.std.specs.Prelude.{List, [], ◌++◌, Option, Some, length, Contains}
 use Rattle.basics.specs.Count.{count_after}
 
 pub record SinkState : Type 0 where

@@ -42,5 +42,5 @@ abbrev pub after_failed_read : SourceState → SourceState
 after_failed_read s = record s { calls = count_after s.calls; faults = count_after s.faults }
 
 -- the buffer with the first n of these bytes at its front
-abbrev pub filled : List ℕ → ℕ → List ℕ → List ℕ
-filled buf n bytes = take n bytes ++ drop n buf
+abbrev pub buffer_after : List ℕ → ℕ → List ℕ → List ℕ
+buffer_after buf n bytes = take n bytes ++ drop n buf

@@ -9,12 +9,12 @@ module _ {R : Type 0} where
   source_reader s = s.input
 
   -- how many of its reads failed
-  abbrev pub source_errors : StdSource R → ℕ
-  source_errors s = s.errors
+  abbrev pub read_errors : StdSource R → ℕ
+  read_errors s = s.errors
 
   -- what its reader tells to be left, by this meaning of readers
-  abbrev pub left_by : (R → Option (List ℕ)) → StdSource R → Option (List ℕ)
-  left_by remaining s = remaining s.input
+  abbrev pub left_in : (R → Option (List ℕ)) → StdSource R → Option (List ℕ)
+  left_in remaining s = remaining s.input
 
 module _ {W : Type 0} where
   -- the writer behind a sink
@@ -22,9 +22,9 @@ module _ {W : Type 0} where
   sink_writer s = s.output
 
   -- how many of its writes failed, or took nothing of a piece that is not empty
-  abbrev pub sink_errors : StdSink W → ℕ
-  sink_errors s = s.errors
+  abbrev pub write_errors : StdSink W → ℕ
+  write_errors s = s.errors
 
   -- what its writer tells to hold, by this meaning of writers
-  abbrev pub held_by : (W → Option (List ℕ)) → StdSink W → Option (List ℕ)
-  held_by contents s = contents s.output
+  abbrev pub held_in : (W → Option (List ℕ)) → StdSink W → Option (List ℕ)
+  held_in contents s = contents s.output

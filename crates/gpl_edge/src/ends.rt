@@ -2,7 +2,7 @@
 ghost use Rattle.std.specs.Prelude.{◌≡◌, ℕ, ◌<◌, ◌≤◌, List, Option, length, IfOk, OnOk, OnErr};
 ghost use Rattle.std.specs.Io.{ReadsAtMost, WritesAtMost};
 ghost use Rattle.basics.specs.Count.{Rose};
-ghost use Rattle.gpl_edge.specs.Ends.{GivesFront, GivesNoneAtEnd, TakesFront, KeepsBytes};
+ghost use Rattle.gpl_edge.specs.Ends.{GivesFront, GivesNoneAtEnd, AddsFront, KeepsBytes};
 
 pub use std::alloc::AllocError as Memory;
 
@@ -44,7 +44,7 @@ pub trait Sink {
     fn write(&mut self, piece: &[u8]) -> Result<usize, Failed>
         ensures within { WritesAtMost result piece.now }
         ensures some { IfOk result (λ n. 0 < length piece.now → 0 < n) }
-        ensures appends { IfOk result (TakesFront held self.old self.new piece.now) }
+        ensures appends { IfOk result (AddsFront held self.old self.new piece.now) }
         ensures stays { OnErr result (KeepsBytes held self.old self.new) }
 
         ensures never_falls { faults self.old ≤ faults self.new }

@@ -2,7 +2,7 @@
 ghost use Rattle.std.specs.Prelude.{◌≡◌, length, drop, min, Ok, Some, IfOk, OnErr};
 ghost use Rattle.std.specs.Io.{ReadsAtMost};
 ghost use Rattle.gpl_edge.specs.Ends.{GivesFront, GivesNoneAtEnd, KeepsBytes};
-ghost use Rattle.gpl_edge.specs.Sources.{filled};
+ghost use Rattle.gpl_edge.specs.Sources.{buffer_after};
 
 use crate::ends::{Failed, Source};
 use crate::mem_source::copy_front;
@@ -48,7 +48,7 @@ impl Source for FirmSource {
 
         // Beside the trait's: it never fails, and gives what the buffer has room for.
         ensures count { result ≡ Ok (min (length buf.old) (length self.old)) }
-        ensures front { IfOk result (λ n. buf.new ≡ filled buf.old n self.old) }
+        ensures front { IfOk result (λ n. buf.new ≡ buffer_after buf.old n self.old) }
         ensures after { IfOk result (λ n. self.new ≡ drop n self.old) }
     {
         let left = &self.bytes[self.at..];

@@ -3,7 +3,7 @@ ghost use Rattle.std.specs.Prelude.{◌≡◌, ◌<◌, ◌≤◌, ◌↔◌, le
 ghost use Rattle.std.specs.Prelude.{IsNone, IfSome};
 ghost use Rattle.std.specs.Io.{WritesAtMost};
 ghost use Rattle.basics.specs.Count.{Rose};
-ghost use Rattle.gpl_edge.specs.Ends.{TakesFront, KeepsBytes};
+ghost use Rattle.gpl_edge.specs.Ends.{AddsFront, KeepsBytes};
 ghost use Rattle.gpl_edge.specs.Sinks.{new_sink, bytes_held, WriteFails, write_len};
 ghost use Rattle.gpl_edge.specs.Sinks.{after_write, after_failed_write};
 
@@ -99,7 +99,7 @@ impl Sink for MemSink {
     fn write(&mut self, piece: &[u8]) -> Result<usize, Failed>
         ensures within { WritesAtMost result piece.now }
         ensures some { IfOk result (λ n. 0 < length piece.now → 0 < n) }
-        ensures appends { IfOk result (TakesFront bytes_held self.old self.new piece.now) }
+        ensures appends { IfOk result (AddsFront bytes_held self.old self.new piece.now) }
         ensures stays { OnErr result (KeepsBytes bytes_held self.old self.new) }
         ensures never_falls { self.old.faults ≤ self.new.faults }
         ensures failed { OnErr result (Rose self.old.faults self.new.faults) }

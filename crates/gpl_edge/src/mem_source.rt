@@ -3,7 +3,7 @@ ghost use Rattle.std.specs.Prelude.{◌≡◌, ◌<◌, ◌≤◌, ◌↔◌, le
 ghost use Rattle.std.specs.Io.{ReadsAtMost};
 ghost use Rattle.basics.specs.Count.{Rose};
 ghost use Rattle.gpl_edge.specs.Ends.{GivesFront, GivesNoneAtEnd, KeepsBytes};
-ghost use Rattle.gpl_edge.specs.Sources.{new_source, bytes_left, ReadFails, read_len, filled};
+ghost use Rattle.gpl_edge.specs.Sources.{new_source, bytes_left, ReadFails, read_len, buffer_after};
 ghost use Rattle.gpl_edge.specs.Sources.{after_read, after_failed_read};
 
 use crate::ends::{Failed, Source};
@@ -74,7 +74,7 @@ impl Source for MemSource {
         // Beside the trait's: which call fails, and how many bytes another gives.
         ensures fails { IsErr result ↔ ReadFails self.old }
         ensures count { IfOk result (λ n. n ≡ read_len self.old (length buf.old)) }
-        ensures front { IfOk result (λ n. buf.new ≡ filled buf.old n self.old.left) }
+        ensures front { IfOk result (λ n. buf.new ≡ buffer_after buf.old n self.old.left) }
         ensures after { IfOk result (λ n. self.new ≡ after_read self.old n) }
         ensures unfilled { OnErr result (buf.new ≡ buf.old) }
         ensures after_failed { OnErr result (self.new ≡ after_failed_read self.old) }
@@ -97,7 +97,7 @@ impl Source for MemSource {
 pub(crate) fn copy_front(from: &[u8], n: usize, to: &mut [u8])
     requires given { n ≤ length from.now }
     requires room { n ≤ length to.old }
-    ensures { to.new ≡ filled to.old n from.now }
+    ensures { to.new ≡ buffer_after to.old n from.now }
 {
     to[..n].copy_from_slice(&from[..n]);
 }

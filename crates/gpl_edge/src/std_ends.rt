@@ -2,9 +2,9 @@
 ghost use Rattle.std.specs.Prelude.{◌≡◌, ◌<◌, ◌≤◌, length, IfOk, OnOk, OnErr};
 ghost use Rattle.std.specs.Io.{ReadsAtMost, WritesAtMost};
 ghost use Rattle.basics.specs.Count.{Rose, CountsOne};
-ghost use Rattle.gpl_edge.specs.Ends.{GivesFront, GivesNoneAtEnd, TakesFront, KeepsBytes};
-ghost use Rattle.gpl_edge.specs.StdEnds.{source_reader, source_errors, left_by};
-ghost use Rattle.gpl_edge.specs.StdEnds.{sink_writer, sink_errors, held_by};
+ghost use Rattle.gpl_edge.specs.Ends.{GivesFront, GivesNoneAtEnd, AddsFront, KeepsBytes};
+ghost use Rattle.gpl_edge.specs.StdEnds.{source_reader, read_errors, left_in};
+ghost use Rattle.gpl_edge.specs.StdEnds.{sink_writer, write_errors, held_in};
 
 use crate::ends::{Failed, Sink, Source};
 use std::io::{Read, Write};
@@ -22,28 +22,28 @@ impl<R: Read> StdSource<R> {
     /// The source that reads from this reader, with no fault so far.
     pub fn new(input: R) -> StdSource<R>
         ensures reader { source_reader result ≡ input }
-        ensures unfailed { source_errors result ≡ 0 }
+        ensures unfailed { read_errors result ≡ 0 }
     {
         StdSource { input, errors: 0 }
     }
 }
 
 impl<R: Read> Source for StdSource<R> {
-    ghost left = { left_by R.remaining };
+    ghost left = { left_in R.remaining };
 
-    ghost faults = { source_errors };
+    ghost faults = { read_errors };
 
     fn read(&mut self, buf: &mut [u8]) -> Result<usize, Failed>
         ensures within { ReadsAtMost result buf.new }
-        ensures gives { IfOk result (GivesFront (left_by R.remaining) self.old self.new buf.new) }
-        ensures end { IfOk result (GivesNoneAtEnd (left_by R.remaining) self.new buf.new) }
-        ensures stays { OnErr result (KeepsBytes (left_by R.remaining) self.old self.new) }
-        ensures never_falls { source_errors self.old ≤ source_errors self.new }
-        ensures failed { OnErr result (Rose (source_errors self.old) (source_errors self.new)) }
-        ensures unraised { OnOk result (source_errors self.new ≡ source_errors self.old) }
+        ensures gives { IfOk result (GivesFront (left_in R.remaining) self.old self.new buf.new) }
+        ensures end { IfOk result (GivesNoneAtEnd (left_in R.remaining) self.new buf.new) }
+        ensures stays { OnErr result (KeepsBytes (left_in R.remaining) self.old self.new) }
+        ensures never_falls { read_errors self.old ≤ read_errors self.new }
+        ensures failed { OnErr result (Rose (read_errors self.old) (read_errors self.new)) }
+        ensures unraised { OnOk result (read_errors self.new ≡ read_errors self.old) }
 
         // Beside the trait's: an error is one fault.
-        ensures counted { OnErr result (CountsOne (source_errors self.old) (source_errors self.new)) }
+        ensures counted { OnErr result (CountsOne (read_errors self.old) (read_errors self.new)) }
     {
         match self.input.read(buf) {
             Ok(n) => Ok(n),
@@ -69,28 +69,28 @@ impl<W: Write> StdSink<W> {
     /// The sink that writes to this writer, with no fault so far.
     pub fn new(output: W) -> StdSink<W>
         ensures writer { sink_writer result ≡ output }
-        ensures unfailed { sink_errors result ≡ 0 }
+        ensures unfailed { write_errors result ≡ 0 }
     {
         StdSink { output, errors: 0 }
     }
 }
 
 impl<W: Write> Sink for StdSink<W> {
-    ghost held = { held_by W.contents };
+    ghost held = { held_in W.contents };
 
-    ghost faults = { sink_errors };
+    ghost faults = { write_errors };
 
     fn write(&mut self, piece: &[u8]) -> Result<usize, Failed>
         ensures within { WritesAtMost result piece.now }
         ensures some { IfOk result (λ n. 0 < length piece.now → 0 < n) }
-        ensures appends { IfOk result (TakesFront (held_by W.contents) self.old self.new piece.now) }
-        ensures stays { OnErr result (KeepsBytes (held_by W.contents) self.old self.new) }
-        ensures never_falls { sink_errors self.old ≤ sink_errors self.new }
-        ensures failed { OnErr result (Rose (sink_errors self.old) (sink_errors self.new)) }
-        ensures unraised { OnOk result (sink_errors self.new ≡ sink_errors self.old) }
+        ensures appends { IfOk result (AddsFront (held_in W.contents) self.old self.new piece.now) }
+        ensures stays { OnErr result (KeepsBytes (held_in W.contents) self.old self.new) }
+        ensures never_falls { write_errors self.old ≤ write_errors self.new }
+        ensures failed { OnErr result (Rose (write_errors self.old) (write_errors self.new)) }
+        ensures unraised { OnOk result (write_errors self.new ≡ write_errors self.old) }
 
         // Beside the trait's: an error is one fault.
-        ensures counted { OnErr result (CountsOne (sink_errors self.old) (sink_errors self.new)) }
+        ensures counted { OnErr result (CountsOne (write_errors self.old) (write_errors self.new)) }
     {
         match self.output.write(piece) {
             Ok(n) if n > 0 || piece.is_empty() => Ok(n),
