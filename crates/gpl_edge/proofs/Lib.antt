@@ -1,3 +1,1 @@
-pub mod FaultCounts
-mod Filled
-pub mod Pieces
+mod Buffers

@@ -1,4 +1,4 @@
-pub mod Faults
+pub mod Ends
 pub mod Sources
 pub mod Sinks
 pub mod StdEnds

@@ -1,15 +1,33 @@
 -- What clauses see of a sink over memory, and what one write makes of it.
-use Rattle.std.specs.Prelude.{◌≡◌, ℕ, ◌-◌, ◌<◌, ◌++◌, ◌⊎◌, List, length, min, Contains}
-use Rattle.gpl_edge.specs.Faults.{count_after}
+use Rattle.std.specs.Prelude.{◌≡◌, ℕ, ◌-◌, ◌<◌, ◌⊎◌, min}
+use Rattle.std.specs.Prelude.{List, [], ◌++◌, Option, Some, length, Contains}
+use Rattle.basics.specs.Count.{count_after}
 
--- the bytes that it holds, the most that it can hold, the most bytes of one call, the numbers of the calls that fail, the calls and the faults so far
 pub record SinkState : Type 0 where
   pub held : List ℕ
+  -- the most bytes that it can hold
   pub room : ℕ
+  -- the most bytes of one call
   pub piece : ℕ
+  -- the numbers of the calls that fail
   pub failing : List ℕ
   pub calls : ℕ
   pub faults : ℕ
+
+-- an empty sink that was never written to
+abbrev pub new_sink : ℕ → ℕ → List ℕ → SinkState
+new_sink room piece failing = record {
+  held = [];
+  room = room;
+  piece = piece;
+  failing = failing;
+  calls = 0;
+  faults = 0;
+}
+
+-- it tells what it holds
+abbrev pub bytes_held : SinkState → Option (List ℕ)
+bytes_held s = Some s.held
 
 -- how many bytes of so many a write takes, unless it fails
 abbrev pub write_len : SinkState → ℕ → ℕ

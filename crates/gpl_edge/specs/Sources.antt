@@ -1,14 +1,29 @@
 -- What clauses see of a source over memory, and what one read makes of it.
-use Rattle.std.specs.Prelude.{ℕ, ◌++◌, List, length, take, drop, min, Contains}
-use Rattle.gpl_edge.specs.Faults.{count_after}
+use Rattle.std.specs.Prelude.{ℕ, ◌++◌, List, Option, Some, length, take, drop, min, Contains}
+use Rattle.basics.specs.Count.{count_after}
 
--- the bytes that are left, the most bytes of one call, the numbers of the calls that fail, the calls and the faults so far
 pub record SourceState : Type 0 where
   pub left : List ℕ
+  -- the most bytes of one call
   pub piece : ℕ
+  -- the numbers of the calls that fail
   pub failing : List ℕ
   pub calls : ℕ
   pub faults : ℕ
+
+-- a source of these bytes that was never read
+abbrev pub new_source : List ℕ → ℕ → List ℕ → SourceState
+new_source bytes piece failing = record {
+  left = bytes;
+  piece = piece;
+  failing = failing;
+  calls = 0;
+  faults = 0;
+}
+
+-- it tells what it has left
+abbrev pub bytes_left : SourceState → Option (List ℕ)
+bytes_left s = Some s.left
 
 -- the next read fails
 abbrev pub ReadFails : SourceState → Type 0
@@ -27,5 +42,5 @@ abbrev pub after_failed_read : SourceState → SourceState
 after_failed_read s = record s { calls = count_after s.calls; faults = count_after s.faults }
 
 -- the buffer with the first n of these bytes at its front
-abbrev pub filled : List ℕ → ℕ → List ℕ → List ℕ
-filled buf n bytes = take n bytes ++ drop n buf
+abbrev pub buffer_after : List ℕ → ℕ → List ℕ → List ℕ
+buffer_after buf n bytes = take n bytes ++ drop n buf

@@ -1,8 +1,8 @@
 //! Where bytes come from, and where they go.
-ghost use Rattle.std.specs.Prelude.{◌≡◌, ℕ, ◌<◌, ◌≤◌, List, Option, length, take, IfOk, OnOk, OnErr};
+ghost use Rattle.std.specs.Prelude.{◌≡◌, ℕ, ◌<◌, ◌≤◌, List, Option, length, IfOk, OnOk, OnErr};
 ghost use Rattle.std.specs.Io.{ReadsAtMost, WritesAtMost};
-ghost use Rattle.std.specs.Io.KnownBytes.{Appends, Consumes, IsAtEnd, Keeps};
-ghost use Rattle.gpl_edge.specs.Faults.{Rose};
+ghost use Rattle.basics.specs.Count.{Rose};
+ghost use Rattle.gpl_edge.specs.Ends.{GivesFront, GivesNoneAtEnd, AddsFront, KeepsBytes};
 
 pub use std::alloc::AllocError as Memory;
 
@@ -22,9 +22,9 @@ pub trait Source {
     /// 0 is the end.
     fn read(&mut self, buf: &mut [u8]) -> Result<usize, Failed>
         ensures within { ReadsAtMost result buf.new }
-        ensures gives { IfOk result (λ n. Consumes (left self.old) (left self.new) (take n buf.new)) }
-        ensures end { IfOk result (λ n. n ≡ 0 → 0 < length buf.new → IsAtEnd (left self.new)) }
-        ensures stays { OnErr result (Keeps (left self.old) (left self.new)) }
+        ensures gives { IfOk result (GivesFront left self.old self.new buf.new) }
+        ensures end { IfOk result (GivesNoneAtEnd left self.new buf.new) }
+        ensures stays { OnErr result (KeepsBytes left self.old self.new) }
 
         ensures never_falls { faults self.old ≤ faults self.new }
         ensures failed { OnErr result (Rose (faults self.old) (faults self.new)) }
@@ -44,8 +44,8 @@ pub trait Sink {
     fn write(&mut self, piece: &[u8]) -> Result<usize, Failed>
         ensures within { WritesAtMost result piece.now }
         ensures some { IfOk result (λ n. 0 < length piece.now → 0 < n) }
-        ensures appends { IfOk result (λ n. Appends (held self.old) (held self.new) (take n piece.now)) }
-        ensures stays { OnErr result (Keeps (held self.old) (held self.new)) }
+        ensures appends { IfOk result (AddsFront held self.old self.new piece.now) }
+        ensures stays { OnErr result (KeepsBytes held self.old self.new) }
 
         ensures never_falls { faults self.old ≤ faults self.new }
         ensures failed { OnErr result (Rose (faults self.old) (faults self.new)) }

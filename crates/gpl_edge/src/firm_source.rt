@@ -1,8 +1,8 @@
 //! A source that never fails.
-ghost use Rattle.std.specs.Prelude.{◌≡◌, ◌<◌, ◌≤◌, length, take, drop, min, Ok, Some, IfOk, OnErr};
+ghost use Rattle.std.specs.Prelude.{◌≡◌, length, drop, min, Ok, Some, IfOk, OnErr};
 ghost use Rattle.std.specs.Io.{ReadsAtMost};
-ghost use Rattle.std.specs.Io.KnownBytes.{Consumes, IsAtEnd, Keeps};
-ghost use Rattle.gpl_edge.specs.Sources.{filled};
+ghost use Rattle.gpl_edge.specs.Ends.{GivesFront, GivesNoneAtEnd, KeepsBytes};
+ghost use Rattle.gpl_edge.specs.Sources.{buffer_after};
 
 use crate::ends::{Failed, Source};
 use crate::mem_source::copy_front;
@@ -42,13 +42,13 @@ impl Source for FirmSource {
 
     fn read(&mut self, buf: &mut [u8]) -> Result<usize, Failed>
         ensures within { ReadsAtMost result buf.new }
-        ensures gives { IfOk result (λ n. Consumes (Some self.old) (Some self.new) (take n buf.new)) }
-        ensures end { IfOk result (λ n. n ≡ 0 → 0 < length buf.new → IsAtEnd (Some self.new)) }
-        ensures stays { OnErr result (Keeps (Some self.old) (Some self.new)) }
+        ensures gives { IfOk result (GivesFront Some self.old self.new buf.new) }
+        ensures end { IfOk result (GivesNoneAtEnd Some self.new buf.new) }
+        ensures stays { OnErr result (KeepsBytes Some self.old self.new) }
 
         // Beside the trait's: it never fails, and gives what the buffer has room for.
         ensures count { result ≡ Ok (min (length buf.old) (length self.old)) }
-        ensures front { IfOk result (λ n. buf.new ≡ filled buf.old n self.old) }
+        ensures front { IfOk result (λ n. buf.new ≡ buffer_after buf.old n self.old) }
         ensures after { IfOk result (λ n. self.new ≡ drop n self.old) }
     {
         let left = &self.bytes[self.at..];

@@ -17,6 +17,7 @@ pub enum Spot {
 
 /// What is asked at the steps of a run. It may hold a thread up there, and changes nothing else.
 pub trait Gate: Sync {
+    /// Asked at this step of a run. It may wait.
     fn at<R: Threads + Wait + Sync>(&self, rt: &R, spot: Spot);
 }
 

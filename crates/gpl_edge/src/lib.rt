@@ -1,4 +1,5 @@
-//! The edges of the program: where bytes come in, where they go out, and what may stand between the steps of a run.
+//! The edges of the program: where bytes come in, where they go out, and what may stand between
+//! the steps of a run.
 #![tactic(auto)]
 
 mod ends;

@@ -1,9 +1,11 @@
 //! A sink over memory that fails at listed calls and where its room ends.
-ghost use Rattle.std.specs.Prelude.{◌≡◌, ◌<◌, ◌≤◌, ◌↔◌, [], length, take, Some, IfOk, OnOk, OnErr, IsErr, IsNone, IfSome};
+ghost use Rattle.std.specs.Prelude.{◌≡◌, ◌<◌, ◌≤◌, ◌↔◌, length, take, IsErr, IfOk, OnOk, OnErr};
+ghost use Rattle.std.specs.Prelude.{IsNone, IfSome};
 ghost use Rattle.std.specs.Io.{WritesAtMost};
-ghost use Rattle.std.specs.Io.KnownBytes.{Appends, Keeps};
-ghost use Rattle.gpl_edge.specs.Faults.{Rose};
-ghost use Rattle.gpl_edge.specs.Sinks.{WriteFails, write_len, after_write, after_failed_write};
+ghost use Rattle.basics.specs.Count.{Rose};
+ghost use Rattle.gpl_edge.specs.Ends.{AddsFront, KeepsBytes};
+ghost use Rattle.gpl_edge.specs.Sinks.{new_sink, bytes_held, WriteFails, write_len};
+ghost use Rattle.gpl_edge.specs.Sinks.{after_write, after_failed_write};
 
 use crate::ends::{Failed, Memory, Sink};
 use std::alloc::Global;
@@ -36,13 +38,17 @@ impl Model for MemSink {
       faults = s.faults;
     } };
 
-    ghost invariant = { λ s. (vec_len s.bytes ≤ s.room) × (s.room ≤ vec_capacity s.bytes) × (0 < s.piece) };
+    ghost invariant = { λ s. record {
+      within : vec_len s.bytes ≤ s.room;
+      has_room : s.room ≤ vec_capacity s.bytes;
+      takes_some : 0 < s.piece;
+    } };
 }
 
 impl MemSink {
     /// An empty sink for `room` bytes, which takes at most `piece` of them a call and fails at the
-    /// calls that `failing` lists. Calls are counted from 0, and from call 2^64 - 1 on each has that
-    /// number. The room is taken here, so that writing takes no memory.
+    /// calls that `failing` lists. Calls are counted from 0, and from call 2^64 - 1 on each has
+    /// that number. The room is taken here, so that writing takes no memory.
     pub fn new(
         alloc: Global,
         room: usize,
@@ -50,14 +56,7 @@ impl MemSink {
         failing: Vec<u64>,
     ) -> Result<MemSink, Memory>
         requires { 0 < piece }
-        ensures { IfOk result (λ s. s ≡ record {
-          held = [];
-          room = room;
-          piece = piece;
-          failing = failing.items;
-          calls = 0;
-          faults = 0;
-        }) }
+        ensures { IfOk result (λ s. s ≡ new_sink room piece failing.items) }
     {
         Ok(MemSink {
             bytes: Vec::with_capacity(alloc, room)?,
@@ -93,15 +92,15 @@ impl MemSink {
 }
 
 impl Sink for MemSink {
-    ghost held = { λ s. Some s.held };
+    ghost held = { bytes_held };
 
     ghost faults = { λ s. s.faults };
 
     fn write(&mut self, piece: &[u8]) -> Result<usize, Failed>
         ensures within { WritesAtMost result piece.now }
         ensures some { IfOk result (λ n. 0 < length piece.now → 0 < n) }
-        ensures appends { IfOk result (λ n. Appends (Some self.old.held) (Some self.new.held) (take n piece.now)) }
-        ensures stays { OnErr result (Keeps (Some self.old.held) (Some self.new.held)) }
+        ensures appends { IfOk result (AddsFront bytes_held self.old self.new piece.now) }
+        ensures stays { OnErr result (KeepsBytes bytes_held self.old self.new) }
         ensures never_falls { self.old.faults ≤ self.new.faults }
         ensures failed { OnErr result (Rose self.old.faults self.new.faults) }
         ensures unraised { OnOk result (self.new.faults ≡ self.old.faults) }

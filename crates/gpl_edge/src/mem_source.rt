@@ -1,9 +1,10 @@
 //! A source over memory that fails at listed calls.
-ghost use Rattle.std.specs.Prelude.{◌≡◌, ◌<◌, ◌≤◌, ◌↔◌, length, take, drop, Some, IfOk, OnOk, OnErr, IsErr};
+ghost use Rattle.std.specs.Prelude.{◌≡◌, ◌<◌, ◌≤◌, ◌↔◌, length, IfOk, OnOk, OnErr, IsErr};
 ghost use Rattle.std.specs.Io.{ReadsAtMost};
-ghost use Rattle.std.specs.Io.KnownBytes.{Consumes, IsAtEnd, Keeps};
-ghost use Rattle.gpl_edge.specs.Faults.{Rose};
-ghost use Rattle.gpl_edge.specs.Sources.{ReadFails, read_len, after_read, after_failed_read, filled};
+ghost use Rattle.basics.specs.Count.{Rose};
+ghost use Rattle.gpl_edge.specs.Ends.{GivesFront, GivesNoneAtEnd, KeepsBytes};
+ghost use Rattle.gpl_edge.specs.Sources.{new_source, bytes_left, ReadFails, read_len, buffer_after};
+ghost use Rattle.gpl_edge.specs.Sources.{after_read, after_failed_read};
 
 use crate::ends::{Failed, Source};
 use std::marker::Model;
@@ -39,16 +40,11 @@ impl Model for MemSource {
 
 impl MemSource {
     /// A source of these bytes, which gives at most `piece` of them a call and fails at the calls
-    /// that `failing` lists. Calls are counted from 0, and from call 2^64 - 1 on each has that number.
+    /// that `failing` lists. Calls are counted from 0, and from call 2^64 - 1 on each has that
+    /// number.
     pub fn new(bytes: Vec<u8>, piece: usize, failing: Vec<u64>) -> MemSource
         requires { 0 < piece }
-        ensures { result ≡ record {
-          left = bytes.items;
-          piece = piece;
-          failing = failing.items;
-          calls = 0;
-          faults = 0;
-        } }
+        ensures { result ≡ new_source bytes.items piece failing.items }
     {
         MemSource {
             bytes,
@@ -62,15 +58,15 @@ impl MemSource {
 }
 
 impl Source for MemSource {
-    ghost left = { λ s. Some s.left };
+    ghost left = { bytes_left };
 
     ghost faults = { λ s. s.faults };
 
     fn read(&mut self, buf: &mut [u8]) -> Result<usize, Failed>
         ensures within { ReadsAtMost result buf.new }
-        ensures gives { IfOk result (λ n. Consumes (Some self.old.left) (Some self.new.left) (take n buf.new)) }
-        ensures end { IfOk result (λ n. n ≡ 0 → 0 < length buf.new → IsAtEnd (Some self.new.left)) }
-        ensures stays { OnErr result (Keeps (Some self.old.left) (Some self.new.left)) }
+        ensures gives { IfOk result (GivesFront bytes_left self.old self.new buf.new) }
+        ensures end { IfOk result (GivesNoneAtEnd bytes_left self.new buf.new) }
+        ensures stays { OnErr result (KeepsBytes bytes_left self.old self.new) }
         ensures never_falls { self.old.faults ≤ self.new.faults }
         ensures failed { OnErr result (Rose self.old.faults self.new.faults) }
         ensures unraised { OnOk result (self.new.faults ≡ self.old.faults) }
@@ -78,7 +74,7 @@ impl Source for MemSource {
         // Beside the trait's: which call fails, and how many bytes another gives.
         ensures fails { IsErr result ↔ ReadFails self.old }
         ensures count { IfOk result (λ n. n ≡ read_len self.old (length buf.old)) }
-        ensures front { IfOk result (λ n. buf.new ≡ filled buf.old n self.old.left) }
+        ensures front { IfOk result (λ n. buf.new ≡ buffer_after buf.old n self.old.left) }
         ensures after { IfOk result (λ n. self.new ≡ after_read self.old n) }
         ensures unfilled { OnErr result (buf.new ≡ buf.old) }
         ensures after_failed { OnErr result (self.new ≡ after_failed_read self.old) }
@@ -101,7 +97,7 @@ impl Source for MemSource {
 pub(crate) fn copy_front(from: &[u8], n: usize, to: &mut [u8])
     requires given { n ≤ length from.now }
     requires room { n ≤ length to.old }
-    ensures { to.new ≡ filled to.old n from.now }
+    ensures { to.new ≡ buffer_after to.old n from.now }
 {
     to[..n].copy_from_slice(&from[..n]);
 }

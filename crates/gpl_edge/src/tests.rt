@@ -1,4 +1,7 @@
+ghost use Rattle.std.specs.Prelude.{◌<◌};
+
 use crate::{Failed, FirmSource, MemSink, MemSource, Memory, Sink, Source, StdSink, StdSource};
+use std::alloc::Global;
 use std::test::Fail;
 
 #[test]
@@ -42,6 +45,39 @@ fn a_sink_keeps_what_it_held_where_a_call_fails_or_its_room_ends(
     assert_eq!(rt; sink.write(b"o"), Err(Failed));
     assert_eq!(rt; sink.write(b""), Ok(0));
     assert_eq!(rt; sink.held(), b"hell".as_slice());
+    Ok(())
+}
+
+/// The most bytes of a trace or of the text of a play.
+const GREATEST: usize = 1 << 24;
+
+/// Bytes of one call.
+const PIECE: usize = 65_521;
+
+/// A sink with room for so many bytes, which were read and written piece by piece.
+fn filled_sink(alloc: Global, size: usize, piece: usize) -> Result<MemSink, Memory>
+    requires { 0 < piece }
+{
+    let mut source = MemSource::new(Vec::from_elem(alloc, b'x', size)?, piece, Vec::new(alloc));
+    let mut sink = MemSink::new(alloc, size, piece, Vec::new(alloc))?;
+    let mut buf = Vec::from_elem(alloc, 0, piece)?;
+    for _ in 0..size {
+        let Ok(count) = source.read(buf.as_mut_slice()) else {
+            return Ok(sink);
+        };
+        let (bytes, _) = buf.split_at(count);
+        if sink.write(bytes) != Ok(count) {
+            return Ok(sink);
+        }
+    }
+    Ok(sink)
+}
+
+#[test]
+fn the_greatest_size_is_read_and_held_to_the_end(rt: HostRuntime) -> Result<(), Fail> {
+    let mut sink = filled_sink(rt.alloc(), GREATEST, PIECE)?;
+    assert_eq!(rt; sink.held().len(), GREATEST);
+    assert_eq!(rt; sink.write(b"x"), Err(Failed));
     Ok(())
 }
 

@@ -1,7 +1,7 @@
 ghost use Rattle.std.specs.Prelude.{◌≡◌, ◌≢◌, ◌≤◌, ◌⊎◌, ◌↔◌, ℕ, List, map, IsTrue, IsSome, IsNone, IfSome, IfOk, None, string_bytes};
 ghost use Rattle.std.specs.Option.{option_map};
 ghost use Rattle.std.specs.Io.KnownBytes.{IsAtEnd, Keeps};
-ghost use Rattle.gpl_edge.specs.Faults.{Rose};
+ghost use Rattle.basics.specs.Count.{Rose};
 ghost use Rattle.draw_model.specs.Draw.{HasLimitedSides};
 ghost use Rattle.trace_model.specs.Form.{trace_of};
 ghost use Rattle.trace_model.specs.Meaning.{meaning};

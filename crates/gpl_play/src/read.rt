@@ -1,6 +1,6 @@
 ghost use Rattle.std.specs.Prelude.{◌≡◌, ℕ, ◌+◌, ◌<◌, ◌≤◌, ◌⊎◌, length, IfOk};
 ghost use Rattle.std.specs.Io.KnownBytes.{Consumes, IsAtEnd};
-ghost use Rattle.gpl_edge.specs.Faults.{Rose};
+ghost use Rattle.basics.specs.Count.{Rose};
 ghost use Rattle.gpl_play.specs.Reads.{Reads};
 
 use gpl_edge::Source;

@@ -1,6 +1,6 @@
 ghost use Rattle.std.specs.Prelude.{◌≡◌, ℕ, List, ◌++◌, OnOk, OnErr};
 ghost use Rattle.std.specs.Io.KnownBytes.{Appends};
-ghost use Rattle.gpl_edge.specs.Faults.{Rose};
+ghost use Rattle.basics.specs.Count.{Rose};
 ghost use Rattle.gpl_play.specs.Writes.{WritesFront};
 
 use gpl_edge::{Failed, Sink};

@@ -1,3 +1,4 @@
 pub mod Places
 pub mod ClosedSteps
+pub mod PlainSteps
 pub mod LowSteps

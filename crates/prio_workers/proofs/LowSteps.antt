@@ -4,13 +4,13 @@ use mathlib.Core.Option.{some, some-injective}
 use mathlib.Core.Logic.{dite}
 use native.Mathlib.Decide.{ℕ_discrete}
 use lib.ListN.{get_elem?}
-use Rattle.std.proofs.lemmas.List.Elements.{All-nil, All-push, All-weaker, All-contains, Contains-append_left, Contains-push, Contains-push_cases}
+use Rattle.std.proofs.lemmas.List.Elements.{All-nil, All-push, All-head, All-tail, All-weaker, All-contains, Contains-append_left, Contains-push, Contains-push_cases}
 use Rattle.std.proofs.lemmas.List.Quantifiers.{all_pairs_push}
 use Rattle.crossbeam_queue.specs.Fifo.{Pushes, Pops, Forks}
 use Rattle.atomic_table.proofs.Lists.{at_set, set_else, set_again, at_longer, at_snoc}
 use Rattle.prio_workers.proofs.Places.{set_at}
 use Rattle.prio_workers.specs.declared.low_queue.LowView.{LowView}
-use Rattle.prio_workers.specs.LowRule.{producer_view, taker_view, AreNumbered, HasTaken, IsTakenOnce, IsLowRule}
+use Rattle.prio_workers.specs.LowRule.{producer_view, taker_view, after_next_push, AreNumbered, HasTaken, IsTakenOnce, IsLowRule, PopsLow}
 
 none_in_nil : (n : ℕ) → Contains [] n → ⊥
 none_in_nil n c = let h = c.1 in omega arith
@@ -22,8 +22,8 @@ numbered_push number first end (x ∷ xs) job h e = (h.0, numbered_push number (
 once_kept : (old new : List LowView) (n : ℕ) → ((j : ℕ) → HasTaken old j n → HasTaken new j n) → ((j : ℕ) → HasTaken new j n → HasTaken old j n) → IsTakenOnce old n → IsTakenOnce new n
 once_kept old new n stays was once = record { taker = once.taker; has_taken = stays once.taker once.has_taken; no_other = λ j h. once.no_other j (was j h) }
 
-module _ {J : Type 0} (number : J → ℕ) where
-  pub pops : (pass : ℕ) (v : LowView) → v.is_producer ≡ false → Pops (IsLowRule number) pass v (λ job w. (w ≡ taker_view (v.taken ++ number job ∷ [])) × All (λ n. n < number job) v.taken)
+module _ {J : Type 0} (number : J → ℕ) (IsFor : J → Type 0) where
+  pub pops : (pass : ℕ) (v : LowView) → v.is_producer ≡ false → Pops (IsLowRule number IsFor) pass v (PopsLow number IsFor v)
   pops pass v taker job items views h at = let w : LowView = taker_view (v.taken ++ number job ∷ []) in
       let is_next : number job ≡ h.next_taken = h.queued.0 in
       let B : ℕ → Type 0 = λ k. All (λ n. n < k) v.taken in
@@ -51,17 +51,19 @@ module _ {J : Type 0} (number : J → ℕ) where
           next_pushed = h.next_pushed;
           producer = h.producer;
           queued = h.queued.1;
+          due = All-tail IsFor job items h.due;
           producer_knows = set_else views pass h.producer w other ∙ h.producer_knows;
           one_producer = λ j u e c. ⊎_elim (λ x. absurd (true≢false (sym c ∙ ap (λ (y : LowView). y.is_producer) (sym x.1)))) (λ x. h.one_producer j u x.1 c) (at_set views pass j w u e);
           ascending = λ j u e. ⊎_elim (λ x. subst A x.1 (all_pairs_push Less v.taken (number job) (h.ascending pass v at) below)) (λ x. h.ascending j u x.1) (at_set views pass j w u e);
           below = λ j u e. ⊎_elim (λ x. subst L x.1 (All-push (λ n. n < h.next_taken + 1) v.taken (number job) (up v.taken (h.below pass v at)) (omega arith))) (λ x. up u.taken (h.below j u x.1)) (at_set views pass j w u e);
           taken_once = λ n lt. dite (ℕ_discrete n h.next_taken) (new_one n) (λ ne. once_kept views views' n (stays n) (λ j. was n j (λ e. ne (e ∙ is_next))) (h.taken_once n (omega arith)));
         },
-        (refl, below),
+        record { listed = refl; ascending = below; due = All-head IsFor job items h.due },
       )
 
-  pub pushes : (n pass : ℕ) (v : LowView) (job : J) → v.is_producer ≡ true → number job ≡ v.pushed → Pushes (IsLowRule number) n pass v job (λ w. w ≡ producer_view (v.pushed + 1))
-  pushes _ pass v job producer is_next items views room h at = let w : LowView = producer_view (v.pushed + 1) in
+  pub pushes : (n pass : ℕ) (v : LowView) (job : J) → v.is_producer ≡ true → number job ≡ v.pushed → IsFor job
+      → Pushes (IsLowRule number IsFor) n pass v job (λ w. w ≡ after_next_push v)
+  pushes _ pass v job producer is_next due items views room h at = let w : LowView = producer_view (v.pushed + 1) in
       let here : pass ≡ h.producer = h.one_producer pass v at producer in
       let is : producer_view h.next_pushed ≡ v = some-injective (producer_view h.next_pushed) v (sym h.producer_knows ∙ ap (get_elem? views) (sym here) ∙ at) in
       let end : h.next_pushed ≡ v.pushed = ap (λ (y : LowView). y.pushed) is in
@@ -80,6 +82,7 @@ module _ {J : Type 0} (number : J → ℕ) where
           next_pushed = v.pushed + 1;
           producer = pass;
           queued = subst N end (numbered_push number h.next_taken h.next_pushed items job h.queued (is_next ∙ sym end));
+          due = All-push IsFor items job h.due due;
           producer_knows = set_at views pass w v at;
           one_producer = λ j u e c. ⊎_elim (λ x. x.0) (λ x. h.one_producer j u x.1 c ∙ sym here) (at_set views pass j w u e);
           ascending = λ j u e. ⊎_elim (λ x. subst A x.1 (λ i k d lt end. absurd (omega arith))) (λ x. h.ascending j u x.1) (at_set views pass j w u e);
@@ -89,7 +92,7 @@ module _ {J : Type 0} (number : J → ℕ) where
         refl,
       )
 
-  pub forks : (pass : ℕ) (v : LowView) → Forks (IsLowRule number) pass v v (taker_view [])
+  pub forks : (pass : ℕ) (v : LowView) → Forks (IsLowRule number IsFor) pass v v (taker_view [])
   forks pass v items views h at = let w : LowView = taker_view [] in
       let all : List LowView = set views pass v in
       let same : all ≡ views = set_again views pass v at in
@@ -105,6 +108,7 @@ module _ {J : Type 0} (number : J → ℕ) where
         next_pushed = h.next_pushed;
         producer = h.producer;
         queued = h.queued;
+        due = h.due;
         producer_knows = longer h.producer (producer_view h.next_pushed) h.producer_knows;
         one_producer = λ j u e c. ⊎_elim (λ x. h.one_producer j u (within j u x) c) (λ x. absurd (true≢false (sym c ∙ ap (λ (y : LowView). y.is_producer) (sym x)))) (at_snoc all w u j e);
         ascending = λ j u e. ⊎_elim (λ x. h.ascending j u (within j u x)) (λ x. subst A x (λ i k d lt end. absurd (omega arith))) (at_snoc all w u j e);
@@ -113,6 +117,6 @@ module _ {J : Type 0} (number : J → ℕ) where
       }
 
   -- a number was taken by one pass at most
-  pub taken_by_one : (items : List J) (views : List LowView) → IsLowRule number items views → (n i j : ℕ) → HasTaken views i n → HasTaken views j n → i ≡ j
+  pub taken_by_one : (items : List J) (views : List LowView) → IsLowRule number IsFor items views → (n i j : ℕ) → HasTaken views i n → HasTaken views j n → i ≡ j
   taken_by_one items views h n i j ti tj =
       let once : IsTakenOnce views n = h.taken_once n (All-contains (λ k. k < h.next_taken) ti.0.taken n (h.below i ti.0 ti.1) ti.2) in once.no_other i ti ∙ sym (once.no_other j tj)

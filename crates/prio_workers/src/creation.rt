@@ -1,6 +1,9 @@
 //! How the queues are made, with all that their workers and producers hold of them.
-ghost use Rattle.std.specs.Prelude.{◌≡◌, true, false, IfOk, IfErr, replicate};
-ghost use Rattle.prio_workers.specs.Passes.{shared_passes_of, new_low_push, new_pass};
+ghost use Rattle.std.specs.Prelude.{◌≡◌, IfOk, IfErr, OnOk, replicate};
+ghost use Rattle.prio_workers.specs.Passes.{AreSharedOf, new_shared_passes, new_low_push, new_pass};
+ghost use Rattle.prio_workers.specs.Passes.{after_high_push, after_normal_push, after_close};
+ghost use Rattle.prio_workers.specs.Passes.{HandsBack};
+ghost use Rattle.prio_workers.specs.declared.taking.Priority.TheVariants.{High, Normal};
 
 use crate::closed_word::{ClosedSeat, open_word, store_word, worker_seat};
 use crate::low_queue::open_low;
@@ -11,10 +14,11 @@ use std::alloc::{AllocError, Global};
 use std::marker::Model;
 use std::sync::Wait;
 
-/// The closer's seat, and the passes with which High and Normal jobs are pushed. Contracts see of which queues and
-/// of which closed word these are.
+/// The closer's seat, and the passes with which High and Normal jobs are pushed. Contracts see of
+/// which queues and of which closed word these are, how many jobs were pushed, and whether the 1
+/// was stored.
 #[derive(Drop)]
-pub struct SharedPasses<J> {
+pub(crate) struct SharedPasses<J> {
     closer: ClosedSeat,
     high: PlainPass<J>,
     normal: PlainPass<J>,
@@ -22,42 +26,64 @@ pub struct SharedPasses<J> {
 
 impl<J> Model for SharedPasses<J> {
     ghost use Rattle.std.specs.Prelude.{◌≡◌, true, []};
-    ghost use Rattle.prio_workers.specs.Passes.{SharedPassesView, IsIdle};
+    ghost use Rattle.prio_workers.specs.Passes.{SharedPassesView, IsIdle, pass_view};
 
     ghost Value = { SharedPassesView };
 
-    ghost view = { λ k. record { high = k.high.web; normal = k.normal.web; closed = k.closer.table_id; stored = k.closer.me.0.stored } };
+    ghost view = { λ k. record {
+      high = k.high.web;
+      normal = k.normal.web;
+      closed = k.closer.table_id;
+      high_pushed = (pass_view k.high).pushed;
+      normal_pushed = (pass_view k.normal).pushed;
+      stored = k.closer.me.0.stored;
+    } };
 
-    ghost invariant = { λ k. IsIdle k.high × IsIdle k.normal × (k.closer.me.0.is_closer ≡ true) × (k.closer.me.1 ≡ []) };
+    ghost invariant = { λ k. record {
+      high : IsIdle k.high;
+      normal : IsIdle k.normal;
+      closer : k.closer.me.0.is_closer ≡ true;
+      none_out : k.closer.me.1 ≡ [];
+    } };
 }
 
 impl<J: Numbered + Drop> SharedPasses<J> {
-    pub fn push_high<R: Wait>(&mut self, rt: &R, set: &QueueSet<J>, job: J) -> Result<(), J>
-        requires { self.old ≡ shared_passes_of set.now self.old.stored }
-        ensures same { self.new ≡ self.old }
-        ensures refused { IfErr result (λ back. back ≡ job) }
+    /// Pushes a job to the High queue.
+    pub(crate) fn push_high<R: Wait>(&mut self, rt: &R, set: &QueueSet<J>, job: J) -> Result<(), J>
+        requires queues { AreSharedOf set.now self.old }
+        requires due { J.IsFor High job }
+        ensures pushed { OnOk result (self.new ≡ after_high_push self.old) }
+        ensures refused { IfErr result (HandsBack job self.old self.new) }
     {
         push_plain(rt, &set.high, &mut self.high, job)
     }
 
-    pub fn push_normal<R: Wait>(&mut self, rt: &R, set: &QueueSet<J>, job: J) -> Result<(), J>
-        requires { self.old ≡ shared_passes_of set.now self.old.stored }
-        ensures same { self.new ≡ self.old }
-        ensures refused { IfErr result (λ back. back ≡ job) }
+    /// Pushes a job to the Normal queue.
+    pub(crate) fn push_normal<R: Wait>(
+        &mut self,
+        rt: &R,
+        set: &QueueSet<J>,
+        job: J,
+    ) -> Result<(), J>
+        requires queues { AreSharedOf set.now self.old }
+        requires due { J.IsFor Normal job }
+        ensures pushed { OnOk result (self.new ≡ after_normal_push self.old) }
+        ensures refused { IfErr result (HandsBack job self.old self.new) }
     {
         push_plain(rt, &set.normal, &mut self.normal, job)
     }
 
     /// Stores 1 in the closed word.
-    pub fn close(&mut self, set: &QueueSet<J>)
-        requires { self.old ≡ shared_passes_of set.now self.old.stored }
-        ensures { self.new ≡ shared_passes_of set.now true }
+    pub(crate) fn close(&mut self, set: &QueueSet<J>)
+        requires { AreSharedOf set.now self.old }
+        ensures { self.new ≡ after_close self.old }
     {
         store_word(&set.closed, &mut self.closer);
     }
 }
 
-/// The queues before they have a name, with all their passes.
+/// The queues before they have a name, with all their passes. Contracts see which queues these are,
+/// and how many worker passes there are.
 #[derive(Drop)]
 pub struct Queues<J: Numbered + Drop> {
     pub(crate) set: QueueSet<J>,
@@ -67,14 +93,19 @@ pub struct Queues<J: Numbered + Drop> {
 }
 
 impl<J: Numbered + Drop> Model for Queues<J> {
-    ghost use Rattle.std.specs.Prelude.{◌≡◌, false, length, replicate};
-    ghost use Rattle.prio_workers.specs.Passes.{QueuesView, shared_passes_of, new_low_push, new_pass};
+    ghost use Rattle.std.specs.Prelude.{◌≡◌, length, replicate};
+    ghost use Rattle.prio_workers.specs.Passes.{QueuesView, new_shared_passes};
+    ghost use Rattle.prio_workers.specs.Passes.{new_low_push, new_pass};
 
     ghost Value = { QueuesView };
 
     ghost view = { λ q. record { queues = q.set; passes = length q.passes.items } };
 
-    ghost invariant = { λ q. (q.shared ≡ shared_passes_of q.set false) × (q.low_push ≡ new_low_push q.set) × (q.passes.items ≡ replicate (length q.passes.items) (new_pass q.set)) };
+    ghost invariant = { λ q. record {
+      shared : q.shared ≡ new_shared_passes q.set;
+      low_push : q.low_push ≡ new_low_push q.set;
+      passes : q.passes.items ≡ replicate (length q.passes.items) (new_pass q.set);
+    } };
 }
 
 impl<J: Numbered + Drop> Queues<J> {
@@ -96,7 +127,8 @@ impl<J: Numbered + Drop> Queues<J> {
 fn open_set<J: Numbered + Drop>(
     alloc: Global,
 ) -> Result<(QueueSet<J>, SharedPasses<J>, LowPush<J>), AllocError>
-    ensures { IfOk result (λ r. (r.1 ≡ shared_passes_of r.0 false) × (r.2 ≡ new_low_push r.0)) }
+    ensures shared { IfOk result (λ r. r.1 ≡ new_shared_passes r.0) }
+    ensures low_push { IfOk result (λ r. r.2 ≡ new_low_push r.0) }
 {
     let (high, high_pass) = open_plain(alloc)?;
     let (normal, normal_pass) = open_plain(alloc)?;
@@ -122,8 +154,10 @@ fn make_pass<J: Numbered + Drop>(
     shared: &mut SharedPasses<J>,
     low_push: &mut LowPush<J>,
 ) -> WorkerPass<J>
-    requires { (shared.old ≡ shared_passes_of set.now false) × (low_push.old ≡ new_low_push set.now) }
-    ensures same { (shared.new ≡ shared.old) × (low_push.new ≡ low_push.old) }
+    requires shared { shared.old ≡ new_shared_passes set.now }
+    requires low_push { low_push.old ≡ new_low_push set.now }
+    ensures shared { shared.new ≡ shared.old }
+    ensures low_push { low_push.new ≡ low_push.old }
     ensures new { result ≡ new_pass set.now }
 {
     let none = EmptyPops {
@@ -151,8 +185,10 @@ fn make_passes<J: Numbered + Drop>(
     low_push: &mut LowPush<J>,
     count: u32,
 ) -> Result<Vec<WorkerPass<J>>, AllocError>
-    requires { (shared.old ≡ shared_passes_of set.now false) × (low_push.old ≡ new_low_push set.now) }
-    ensures same { (shared.new ≡ shared.old) × (low_push.new ≡ low_push.old) }
+    requires shared { shared.old ≡ new_shared_passes set.now }
+    requires low_push { low_push.old ≡ new_low_push set.now }
+    ensures shared { shared.new ≡ shared.old }
+    ensures low_push { low_push.new ≡ low_push.old }
     ensures new { IfOk result (λ passes. passes.items ≡ replicate count (new_pass set.now)) }
 {
     let mut passes = Vec::with_capacity(alloc, count as usize)?;

@@ -1,4 +1,5 @@
-//! Jobs of three priorities for any number of workers, which take each job once, in the order of the priorities, and stop once the queues are closed and empty.
+//! Jobs of three priorities for any number of workers, which take each job once, in the order of
+//! the priorities, and stop once the queues are closed and empty.
 #![tactic(auto)]
 
 mod closed_word;

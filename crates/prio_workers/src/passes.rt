@@ -1,24 +1,27 @@
 //! The queues that threads share, and what each worker and the producer of Low jobs hold of them.
-ghost use Rattle.std.specs.Prelude.{◌≡◌, ◌+◌, ◌<◌, ◌==◌, ℕ, true, [], All, IfSome, IfNone, IfErr, OnOk};
+ghost use Rattle.std.specs.Prelude.{◌≡◌, ◌==◌, ℕ, true, [], Some, IfSome, IfNone, IfErr, OnOk};
+ghost use Rattle.basics.specs.Count.{count_after};
 ghost use Rattle.crossbeam_queue.specs.SegTies.{IsSegPassOf};
 ghost use Rattle.prio_workers.specs.LowRule.{taker_view};
-ghost use Rattle.prio_workers.specs.Tally.{IsEmptyPop, raised, after_job, after_load};
+ghost use Rattle.prio_workers.specs.Passes.{IsPassKnowing, HandsBack, pass_view, after_low_push};
+ghost use Rattle.prio_workers.specs.Tally.{IsEmptyPop, after_load};
+ghost use Rattle.prio_workers.specs.Takes.{PopsJob};
 ghost use Rattle.prio_workers.specs.declared.taking.Priority.TheVariants.{High, Normal, Low};
 
 use crate::closed_word::{ClosedSeat, ClosedWord, read_word};
 use crate::low_queue::{LowPass, LowQueue, pop_next, push_next, taker_pass};
-use crate::plain_queue::{PlainPass, PlainQueue, pop_plain};
+use crate::plain_queue::{HighLevel, NormalLevel, PlainPass, PlainQueue, pop_plain};
 use crate::taking::{EmptyPops, Numbered, Priority};
 use std::marker::Model;
 use std::sync::Wait;
 
 /// The three queues and the closed word. Contracts see which these are.
 #[derive(Drop)]
-pub struct QueueSet<J: Numbered + Drop> {
-    pub high: PlainQueue<J>,
-    pub normal: PlainQueue<J>,
-    pub low: LowQueue<J>,
-    pub closed: ClosedWord,
+pub(crate) struct QueueSet<J: Numbered + Drop> {
+    pub(crate) high: PlainQueue<J, HighLevel>,
+    pub(crate) normal: PlainQueue<J, NormalLevel>,
+    pub(crate) low: LowQueue<J>,
+    pub(crate) closed: ClosedWord,
 }
 
 impl<J: Numbered + Drop> Model for QueueSet<J> {
@@ -27,35 +30,67 @@ impl<J: Numbered + Drop> Model for QueueSet<J> {
 
     ghost Value = { QueuesId };
 
-    ghost view = { λ q. record { high = q.high.ruled.web; normal = q.normal.ruled.web; low = q.low.ruled.web; closed = q.closed.shared.table_id } };
+    ghost view = { λ q. record {
+      high = q.high.ruled.web;
+      normal = q.normal.ruled.web;
+      low = q.low.ruled.web;
+      closed = q.closed.shared.table_id;
+    } };
 
     ghost invariant = { λ q. q.closed.shared.table_id.words ≡ 1 };
 }
 
-/// What a worker holds of the queues. Contracts see which queues these are, and what its pops have found and given.
+/// What a worker holds of the queues. Contracts see which queues these are, and what its pops have
+/// found and given.
 #[derive(Drop)]
-pub struct PassParts<J> {
-    pub high: PlainPass<J>,
-    pub normal: PlainPass<J>,
-    pub low: LowPass<J>,
-    pub seat: ClosedSeat,
-    pub empty_pops: EmptyPops,
-    pub empty_pops_at_read: EmptyPops,
-    pub last: Option<Priority>,
-    pub given: u64,
+pub(crate) struct PassParts<J> {
+    pub(crate) high: PlainPass<J>,
+    pub(crate) normal: PlainPass<J>,
+    pub(crate) low: LowPass<J>,
+    pub(crate) seat: ClosedSeat,
+    pub(crate) empty_pops: EmptyPops,
+    pub(crate) empty_pops_at_read: EmptyPops,
+    pub(crate) last: Option<Priority>,
+    pub(crate) given: u64,
     /// How many moves the worker had been told of when it last woke.
-    pub seen: u64,
+    pub(crate) seen: u64,
 }
 
 impl<J> Model for PassParts<J> {
     ghost use Rattle.std.specs.Prelude.{◌≡◌, false, []};
-    ghost use Rattle.prio_workers.specs.Passes.{PassView, IsIdle};
+    ghost use Rattle.prio_workers.specs.Passes.{PassView, IsIdle, pass_view};
 
     ghost Value = { PassView };
 
-    ghost view = { λ p. record { queues = record { high = p.high.web; normal = p.normal.web; low = p.low.web; closed = p.seat.table_id }; tally = record { empty_pops = p.empty_pops; closed_loads = p.seat.me.0.loads; closed_found = p.seat.me.0.found; read_closed = p.seat.me.0.read; empty_pops_at_read = p.empty_pops_at_read; low_numbers = p.low.me.view.client.taken; last = p.last; given = p.given } } };
+    ghost view = { λ p. record {
+      queues = record {
+        high = p.high.web;
+        normal = p.normal.web;
+        low = p.low.web;
+        closed = p.seat.table_id;
+      };
+      tally = record {
+        empty_pops = p.empty_pops;
+        closed_loads = p.seat.me.0.loads;
+        closed_found = p.seat.me.0.found;
+        read_closed = p.seat.me.0.read;
+        empty_pops_at_read = p.empty_pops_at_read;
+        high_taken = (pass_view p.high).popped;
+        normal_taken = (pass_view p.normal).popped;
+        low_numbers = (pass_view p.low).taken;
+        last = p.last;
+        given = p.given;
+      };
+    } };
 
-    ghost invariant = { λ p. IsIdle p.high × IsIdle p.normal × IsIdle p.low × (p.low.me.view.client.is_producer ≡ false) × (p.seat.me.0.is_closer ≡ false) × (p.seat.me.1 ≡ []) };
+    ghost invariant = { λ p. record {
+      high : IsIdle p.high;
+      normal : IsIdle p.normal;
+      low : IsIdle p.low;
+      taker : (pass_view p.low).is_producer ≡ false;
+      worker : p.seat.me.0.is_closer ≡ false;
+      none_out : p.seat.me.1 ≡ [];
+    } };
 }
 
 impl<J> PassParts<J> {
@@ -73,7 +108,10 @@ impl<J> PassParts<J> {
 
     fn count_job(&mut self, which: Priority)
         ensures queues { self.new.queues ≡ self.old.queues }
-        ensures given { self.new.tally ≡ record self.old.tally { last = Some which; given = raised self.old.tally.given } }
+        ensures given { self.new.tally ≡ record self.old.tally {
+          last = Some which;
+          given = count_after self.old.tally.given;
+        } }
     {
         self.last = Some(which);
         self.given = self.given.saturating_add(1);
@@ -81,11 +119,13 @@ impl<J> PassParts<J> {
 }
 
 impl<J: Numbered + Drop> PassParts<J> {
-    pub fn pop_high<R: Wait>(&mut self, rt: &R, set: &QueueSet<J>) -> Option<J>
+    /// Pops the High queue.
+    pub(crate) fn pop_high<R: Wait>(&mut self, rt: &R, set: &QueueSet<J>) -> Option<J>
         requires { set.now ≡ self.old.queues }
         ensures queues { self.new.queues ≡ self.old.queues }
         ensures empty { IfNone result (IsEmptyPop High self.old.tally self.new.tally) }
-        ensures job { IfSome result (λ job. self.new.tally ≡ after_job High (J.number job) self.old.tally) }
+        ensures job { IfSome result (PopsJob J.number self.old.tally self.new.tally High) }
+        ensures due { IfSome result (J.IsFor High) }
     {
         let Some(job) = pop_plain(rt, &set.high, &mut self.high) else {
             self.count_empty_pop(Priority::High);
@@ -95,11 +135,13 @@ impl<J: Numbered + Drop> PassParts<J> {
         Some(job)
     }
 
-    pub fn pop_normal<R: Wait>(&mut self, rt: &R, set: &QueueSet<J>) -> Option<J>
+    /// Pops the Normal queue.
+    pub(crate) fn pop_normal<R: Wait>(&mut self, rt: &R, set: &QueueSet<J>) -> Option<J>
         requires { set.now ≡ self.old.queues }
         ensures queues { self.new.queues ≡ self.old.queues }
         ensures empty { IfNone result (IsEmptyPop Normal self.old.tally self.new.tally) }
-        ensures job { IfSome result (λ job. self.new.tally ≡ after_job Normal (J.number job) self.old.tally) }
+        ensures job { IfSome result (PopsJob J.number self.old.tally self.new.tally Normal) }
+        ensures due { IfSome result (J.IsFor Normal) }
     {
         let Some(job) = pop_plain(rt, &set.normal, &mut self.normal) else {
             self.count_empty_pop(Priority::Normal);
@@ -109,12 +151,13 @@ impl<J: Numbered + Drop> PassParts<J> {
         Some(job)
     }
 
-    pub fn pop_low<R: Wait>(&mut self, rt: &R, set: &QueueSet<J>) -> Option<J>
+    /// Pops the Low queue.
+    pub(crate) fn pop_low<R: Wait>(&mut self, rt: &R, set: &QueueSet<J>) -> Option<J>
         requires { set.now ≡ self.old.queues }
         ensures queues { self.new.queues ≡ self.old.queues }
         ensures empty { IfNone result (IsEmptyPop Low self.old.tally self.new.tally) }
-        ensures job { IfSome result (λ job. self.new.tally ≡ after_job Low (J.number job) self.old.tally) }
-        ensures ascending { IfSome result (λ job. All (λ n. n < J.number job) self.old.tally.low_numbers) }
+        ensures job { IfSome result (PopsJob J.number self.old.tally self.new.tally Low) }
+        ensures due { IfSome result (J.IsFor Low) }
     {
         let Some(job) = pop_next(rt, &set.low, &mut self.low) else {
             self.count_empty_pop(Priority::Low);
@@ -125,7 +168,7 @@ impl<J: Numbered + Drop> PassParts<J> {
     }
 
     /// Loads the closed word, and says whether it is 1.
-    pub fn read_closed(&mut self, set: &QueueSet<J>) -> bool
+    pub(crate) fn read_closed(&mut self, set: &QueueSet<J>) -> bool
         requires { set.now ≡ self.old.queues }
         ensures queues { self.new.queues ≡ self.old.queues }
         ensures answer { result ≡ (self.new.tally.closed_found == 1) }
@@ -139,7 +182,8 @@ impl<J: Numbered + Drop> PassParts<J> {
     }
 }
 
-/// What a worker takes jobs with. Contracts see which queues it is of, and its tally, as `Pops` has it.
+/// What a worker takes jobs with. Contracts see which queues it is of, and its tally, as `Pops` has
+/// it.
 #[derive(Drop)]
 pub struct WorkerPass<J> {
     pub(crate) parts: Option<PassParts<J>>,
@@ -157,14 +201,15 @@ impl<J> Model for WorkerPass<J> {
 }
 
 impl<J> WorkerPass<J> {
-    pub fn of(parts: PassParts<J>) -> WorkerPass<J>
+    pub(crate) fn of(parts: PassParts<J>) -> WorkerPass<J>
         ensures { result ≡ parts }
     {
         WorkerPass { parts: Some(parts) }
     }
 }
 
-/// What the one producer of Low jobs pushes with. Contracts see which queue it is of, and how many jobs it has pushed.
+/// What the one producer of Low jobs pushes with. Contracts see which queue it is of, and how many
+/// jobs it has pushed.
 #[derive(Drop)]
 pub struct LowPush<J> {
     pass: LowPass<J>,
@@ -172,38 +217,44 @@ pub struct LowPush<J> {
 
 impl<J> Model for LowPush<J> {
     ghost use Rattle.std.specs.Prelude.{◌≡◌, true};
-    ghost use Rattle.prio_workers.specs.Passes.{LowPushView, IsIdle};
+    ghost use Rattle.prio_workers.specs.Passes.{LowPushView, IsIdle, pass_view};
 
     ghost Value = { LowPushView };
 
-    ghost view = { λ p. record { queue = p.pass.web; pushed = p.pass.me.view.client.pushed } };
+    ghost view = { λ p. record { queue = p.pass.web; pushed = (pass_view p.pass).pushed } };
 
-    ghost invariant = { λ p. IsIdle p.pass × (p.pass.me.view.client.is_producer ≡ true) };
+    ghost invariant = { λ p. record {
+      idle : IsIdle p.pass;
+      producer : (pass_view p.pass).is_producer ≡ true;
+    } };
 }
 
 impl<J: Numbered + Drop> LowPush<J> {
-    pub fn of(low: &LowQueue<J>, pass: LowPass<J>) -> LowPush<J>
-        requires { IsSegPassOf low.now.ruled pass × (pass.me.view.client.is_producer ≡ true) }
-        ensures { result ≡ record { queue = low.now.ruled.web; pushed = pass.me.view.client.pushed } }
+    pub(crate) fn of(low: &LowQueue<J>, pass: LowPass<J>) -> LowPush<J>
+        requires queue { IsSegPassOf low.now.ruled pass }
+        requires producer { (pass_view pass).is_producer ≡ true }
+        ensures queue { result.queue ≡ low.now.ruled.web }
+        ensures pushed { result.pushed ≡ (pass_view pass).pushed }
     {
         LowPush { pass }
     }
 
     /// A pass for a worker.
-    pub fn taker(&mut self, low: &LowQueue<J>) -> LowPass<J>
+    pub(crate) fn taker(&mut self, low: &LowQueue<J>) -> LowPass<J>
         requires { low.now.ruled.web ≡ self.old.queue }
         ensures producer { self.new ≡ self.old }
-        ensures taker { IsSegPassOf low.now.ruled result × (result.me.view.client ≡ taker_view []) }
+        ensures taker { IsPassKnowing low.now.ruled result (taker_view []) }
     {
         taker_pass(low, &mut self.pass)
     }
 
     /// Pushes the job whose number comes next.
-    pub fn push<R: Wait>(&mut self, rt: &R, low: &LowQueue<J>, job: J) -> Result<(), J>
+    pub(crate) fn push<R: Wait>(&mut self, rt: &R, low: &LowQueue<J>, job: J) -> Result<(), J>
         requires queue { low.now.ruled.web ≡ self.old.queue }
         requires number { J.number job ≡ self.old.pushed }
-        ensures pushed { OnOk result (self.new ≡ record self.old { pushed = self.old.pushed + 1 }) }
-        ensures refused { IfErr result (λ back. (back ≡ job) × (self.new ≡ self.old)) }
+        requires due { J.IsFor Low job }
+        ensures pushed { OnOk result (self.new ≡ after_low_push self.old) }
+        ensures refused { IfErr result (HandsBack job self.old self.new) }
     {
         push_next(rt, low, &mut self.pass, job)
     }

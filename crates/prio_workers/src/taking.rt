@@ -1,7 +1,10 @@
-//! How one job is taken: from the first queue that isn't empty, or none, once the queues are closed and empty.
+//! How one job is taken: from the first queue that isn't empty, or none, once the queues are closed
+//! and empty.
 ghost use Rattle.std.specs.Prelude.{◌≡◌, ◌==◌, ℕ, IfSome, IfNone};
-ghost use Rattle.prio_workers.specs.Tally.{Tally, IsEmptyPop, CountsNeverFall, after_job, after_load};
-ghost use Rattle.prio_workers.specs.Takes.{FindsNoJob, FindsJob, IsAboveEarlier, GivesOneJob, ListsLowNumber, ComesInTurn};
+ghost use Rattle.prio_workers.specs.Tally.{Tally, IsEmptyPop, CountsNeverFall, after_load};
+ghost use Rattle.prio_workers.specs.Takes.{FindsNoJob, FindsJob, PopsJob, GivesOneJob};
+ghost use Rattle.prio_workers.specs.Takes.{GivesJobOfQueue, ListsLowNumber, ComesInTurn};
+ghost use Rattle.prio_workers.specs.declared.taking.Priority.{Priority};
 
 use std::sync::Wait;
 use std::thread::Threads;
@@ -14,7 +17,8 @@ pub enum Priority {
     Low,
 }
 
-/// What a call for a job answers: a job, with the queue that gave it, or that the queues are closed and empty.
+/// What a call for a job answers: a job, with the queue that gave it, or that the queues are closed
+/// and empty.
 #[derive(PartialEq, Eq, Debug, Drop)]
 pub enum Taken<J> {
     Job(Priority, J),
@@ -29,26 +33,34 @@ pub struct EmptyPops {
     pub low: u64,
 }
 
-/// A job with a number. Low jobs are pushed in the order of their numbers, 0, 1, 2 and on.
+/// A job, with what contracts see of it.
 pub trait Numbered {
+    /// Its number. Low jobs are pushed in the order of their numbers, 0, 1, 2 and on.
     ghost number: { Self → ℕ };
+
+    /// What is known of each job in the queue of this priority. A push shows it of its job, and
+    /// whoever takes a job from that queue is told it. Left out, it says nothing.
+    ghost IsFor: { Priority → Self → Type 0 } = { λ _ _. Unit {0} };
 }
 
 /// What one worker can do with the queues. Contracts see its `tally`:
 /// - for each queue how many pops found it empty, counts that never fall and stop at 2^64 - 1;
 /// - how often the closed word was loaded, and what the last load found;
-/// - whether a load has read the closed word as 1, and the counts of empty pops at the last load that did;
+/// - whether a load has read the closed word as 1, and the counts of empty pops at the last one;
+/// - how many jobs the High queue gave, and how many the Normal one;
 /// - the numbers of the Low jobs that it gave, which ascend;
-/// - the queue of the last job that it gave, and how many jobs it gave, a count that stops at 2^64 - 1.
+/// - the queue of the last job that it gave, and how many jobs it gave, a count that stops at
+///   2^64 - 1.
 pub trait Pops<J: Numbered> {
     ghost tally: { Self → Tally };
 
-    /// The first job of a queue. `None` comes only where the count of empty pops of that queue rises, or stands at
-    /// its end, and changes nothing else. A job leaves these counts, and is noted with its queue.
+    /// The first job of a queue. `None` comes only where the count of empty pops of that queue
+    /// rises, or stands at its end, and changes nothing else. A job leaves these counts, and is
+    /// noted with its queue.
     fn pop<R: Threads + Wait + Sync>(&mut self, rt: &R, which: Priority) -> Option<J>
         ensures empty { IfNone result (IsEmptyPop which (tally self.old) (tally self.new)) }
-        ensures job { IfSome result (λ job. tally self.new ≡ after_job which (J.number job) (tally self.old)) }
-        ensures ascending { IfSome result (λ job. IsAboveEarlier which (J.number job) (tally self.old)) };
+        ensures job { IfSome result (PopsJob J.number (tally self.old) (tally self.new) which) }
+        ensures due { IfSome result (J.IsFor which) };
 
     /// Loads the closed word, and says whether it is 1.
     fn closed(&mut self) -> bool
@@ -67,8 +79,8 @@ fn first_job<J: Numbered, P: Pops<J>, R: Threads + Wait + Sync>(
 ) -> Option<(Priority, J)>
     ensures never_fall { CountsNeverFall (P.tally pops.old) (P.tally pops.new) }
     ensures none { IfNone result (FindsNoJob (P.tally pops.old) (P.tally pops.new)) }
-    ensures job { IfSome result (λ r. FindsJob r.0 (J.number r.1) (P.tally pops.old) (P.tally pops.new)) }
-    ensures ascending { IfSome result (λ r. IsAboveEarlier r.0 (J.number r.1) (P.tally pops.old)) }
+    ensures job { IfSome result (FindsJob J.number (P.tally pops.old) (P.tally pops.new)) }
+    ensures due { IfSome result (λ found. J.IsFor found.0 found.1) }
 {
     if let Some(job) = pops.pop(rt, Priority::High) {
         return Some((Priority::High, job));
@@ -80,16 +92,17 @@ fn first_job<J: Numbered, P: Pops<J>, R: Threads + Wait + Sync>(
     Some((Priority::Low, job))
 }
 
-/// Takes a job, and waits for one where there is none. `Closed` comes only where the closed word was read as 1 and
-/// each queue was found empty after that.
+/// Takes a job, and waits for one where there is none. `Closed` comes only where the closed word
+/// was read as 1 and each queue was found empty after that.
 pub fn take_from<J: Numbered, P: Pops<J>, R: Threads + Wait + Sync>(
     rt: &R,
     pops: &mut P,
 ) -> Taken<J>
     ensures never_fall { CountsNeverFall (P.tally pops.old) (P.tally pops.new) }
-    ensures gives { GivesOneJob J.number (P.tally pops.old) (P.tally pops.new) result }
+    ensures gives { GivesOneJob (P.tally pops.old) (P.tally pops.new) result }
+    ensures due { GivesJobOfQueue J.IsFor result }
     ensures lists { ListsLowNumber J.number (P.tally pops.old) (P.tally pops.new) result }
-    ensures turn { ComesInTurn J.number (P.tally pops.old) (P.tally pops.new) result }
+    ensures turn { ComesInTurn (P.tally pops.old) (P.tally pops.new) result }
 {
     for _ in rt.forever() {
         if let Some((which, job)) = first_job(rt, pops) {

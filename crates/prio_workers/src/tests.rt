@@ -1,12 +1,17 @@
 ghost use Rattle.std.specs.Prelude.{◌≡◌, All};
 
-use crate::{LowPush, Memory, Numbered, Priority, QueueName, Queues, Taken, WorkerPass, Workers};
+use crate::workers::PassPops;
+use crate::{
+    LowPush, Memory, Numbered, Pops, Priority, QueueName, Queues, Taken, WorkerPass, Workers,
+};
 use std::alloc::Global;
 use std::marker::Brand;
 use std::sync::Wait;
+use std::sync::atomic::{AtomicBool, Ordering};
 use std::test::*;
 use std::thread;
 use std::thread::Threads;
+use std::time::{Clock, Duration};
 
 impl Numbered for u32 {
     ghost number = { λ n. n };
@@ -166,5 +171,187 @@ fn three_workers_take_each_job_once(rt: HostRuntime) -> Result<(), Fail> {
         }
     }
     assert!(rt; times.iter().all(|times| *times == 1));
+    Ok(())
+}
+
+/// What wakes a sleeping worker.
+#[derive(Clone, Copy, Debug)]
+enum Move {
+    High,
+    Normal,
+    Low,
+    Close,
+}
+
+/// How often a sleeper is looked for at most, a millisecond each time.
+const TURNS: u32 = 1000;
+
+/// How many milliseconds a worker is given to fall asleep.
+const UNTIL_ASLEEP: u64 = 50;
+
+/// Whether `is_awake` is set within so many turns.
+fn awakes<C: Clock>(clock: &C, is_awake: &AtomicBool) -> bool {
+    for _ in 0..TURNS {
+        if is_awake.load(Ordering::SeqCst) {
+            return true;
+        }
+        thread::sleep(clock, Duration::from_millis(1));
+    }
+    false
+}
+
+/// Takes one job, and says when that is done.
+fn sleep_and_take<N: QueueName, R: Threads + Wait + Sync>(
+    rt: &R,
+    workers: &Workers<u32, N>,
+    mut pass: WorkerPass<u32>,
+    is_awake: &AtomicBool,
+) -> Taken<u32>
+    requires { pass.queues ≡ N.queues }
+{
+    let taken = workers.take(rt, &mut pass);
+    is_awake.store(true, Ordering::SeqCst);
+    taken
+}
+
+/// Makes one move once the worker sleeps, and says whether that wakes it. If not, other moves do.
+fn wake<N: QueueName, R: Threads + Wait + Sync + Clock>(
+    rt: &R,
+    alloc: Global,
+    workers: &Workers<u32, N>,
+    mut low_push: LowPush<u32>,
+    by: Move,
+    is_awake: &AtomicBool,
+) -> Result<bool, Memory>
+    requires { (low_push.queue ≡ N.queues.low) × (low_push.pushed ≡ 0) }
+{
+    thread::sleep(rt, Duration::from_millis(UNTIL_ASLEEP));
+    let moved = match by {
+        Move::High => workers.push_high(rt, alloc, 7),
+        Move::Normal => workers.push_normal(rt, alloc, 7),
+        Move::Low => workers.push_low(rt, alloc, &mut low_push, 0),
+        Move::Close => {
+            workers.close(rt);
+            Ok(())
+        }
+    };
+    let wakes = awakes(rt, is_awake);
+    if !wakes {
+        workers.close(rt);
+        workers.push_high(rt, alloc, 9).map_err(memory)?;
+        workers.push_normal(rt, alloc, 9).map_err(memory)?;
+    }
+    moved.map_err(memory)?;
+    Ok(wakes)
+}
+
+/// Whether the move woke a worker that had found nothing, and what it then took.
+fn woken<N: QueueName + Send + Sync, R: Threads + Wait + Sync + Clock>(
+    rt: &R,
+    alloc: Global,
+    queues: Queues<u32>,
+    by: Move,
+) -> Result<(bool, Taken<u32>), Memory>
+    requires { (queues.queues ≡ N.queues) × (queues.passes ≡ 1) }
+{
+    let (workers, low_push, mut passes) = Workers::<u32, N>::new(queues);
+    let Some(pass) = passes.pop() else {
+        unreachable!()
+    };
+    let (workers, is_awake) = (&workers, &AtomicBool::new(false));
+    let (taken, wakes) = thread::join(
+        rt,
+        move ||
+            requires { pass.queues ≡ N.queues }
+        { sleep_and_take(rt, workers, pass, is_awake) },
+        move ||
+            requires { (low_push.queue ≡ N.queues.low) × (low_push.pushed ≡ 0) }
+        { wake(rt, alloc, workers, low_push, by, is_awake) },
+    );
+    Ok((wakes?, taken))
+}
+
+#[test]
+fn each_move_wakes_a_sleeping_worker(rt: HostRuntime) -> Result<(), Fail> {
+    let moves = [
+        (Move::High, Taken::Job(Priority::High, 7)),
+        (Move::Normal, Taken::Job(Priority::Normal, 7)),
+        (Move::Low, Taken::Job(Priority::Low, 0)),
+        (Move::Close, Taken::Closed),
+    ];
+    for (by, due) in moves {
+        let queues = Queues::new(rt.alloc(), 1)?;
+        let came = woken::<Brand, HostRuntime>(&rt, rt.alloc(), queues, by)?;
+        assert_eq!(rt; came, (true, due), "{by:?}");
+    }
+    Ok(())
+}
+
+/// Pushes before each rest, and says when all rests are over.
+fn push_and_rest<N: QueueName, R: Threads + Wait + Sync>(
+    rt: &R,
+    alloc: Global,
+    workers: &Workers<u32, N>,
+    pass: WorkerPass<u32>,
+    is_awake: &AtomicBool,
+) -> Result<(), Memory>
+    requires { pass.queues ≡ N.queues }
+{
+    let WorkerPass { parts } = pass;
+    let Some(parts) = parts else { unreachable!() };
+    let mut pops = PassPops { workers, parts };
+    for n in 0..3 {
+        workers.push_high(rt, alloc, n).map_err(memory)?;
+        pops.rest(rt);
+    }
+    is_awake.store(true, Ordering::SeqCst);
+    Ok(())
+}
+
+/// Says whether the rests end by themselves. If not, other moves end them.
+fn watch<N: QueueName, R: Threads + Wait + Sync + Clock>(
+    rt: &R,
+    alloc: Global,
+    workers: &Workers<u32, N>,
+    is_awake: &AtomicBool,
+) -> Result<bool, Memory> {
+    let ends = awakes(rt, is_awake);
+    if !ends {
+        for n in 0..6 {
+            workers.push_normal(rt, alloc, n).map_err(memory)?;
+            thread::sleep(rt, Duration::from_millis(UNTIL_ASLEEP));
+        }
+    }
+    Ok(ends)
+}
+
+fn rests_end<N: QueueName + Send + Sync, R: Threads + Wait + Sync + Clock>(
+    rt: &R,
+    alloc: Global,
+    queues: Queues<u32>,
+) -> Result<bool, Memory>
+    requires { (queues.queues ≡ N.queues) × (queues.passes ≡ 1) }
+{
+    let (workers, _, mut passes) = Workers::<u32, N>::new(queues);
+    let Some(pass) = passes.pop() else {
+        unreachable!()
+    };
+    let (workers, is_awake) = (&workers, &AtomicBool::new(false));
+    let (rested, ends) = thread::join(
+        rt,
+        move ||
+            requires { pass.queues ≡ N.queues }
+        { push_and_rest(rt, alloc, workers, pass, is_awake) },
+        move || watch(rt, alloc, workers, is_awake),
+    );
+    rested?;
+    ends
+}
+
+#[test]
+fn a_move_before_a_rest_ends_it(rt: HostRuntime) -> Result<(), Fail> {
+    let queues = Queues::new(rt.alloc(), 1)?;
+    let ends = rests_end::<Brand, HostRuntime>(&rt, rt.alloc(), queues)?;
+    assert!(rt; ends);
     Ok(())
 }

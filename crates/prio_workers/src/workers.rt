@@ -1,8 +1,12 @@
 //! The queues as threads share them.
-ghost use Rattle.std.specs.Prelude.{◌≡◌, ◌+◌, true, IfErr, OnOk, replicate};
+ghost use Rattle.std.specs.Prelude.{◌≡◌, IfErr, OnOk, replicate};
+ghost use Rattle.prio_workers.specs.Passes.{QueuesId, no_queues, new_low_push, new_pass};
+ghost use Rattle.prio_workers.specs.Passes.{AreSharedOf, HandsBack, after_low_push};
+ghost use Rattle.prio_workers.specs.Passes.{after_high_push, after_normal_push, after_close};
 ghost use Rattle.prio_workers.specs.Tally.{CountsNeverFall};
-ghost use Rattle.prio_workers.specs.Takes.{GivesOneJob, ListsLowNumber, ComesInTurn};
-ghost use Rattle.prio_workers.specs.Passes.{QueuesId, shared_passes_of, new_low_push, new_pass, no_queues};
+ghost use Rattle.prio_workers.specs.Takes.{GivesOneJob, GivesJobOfQueue};
+ghost use Rattle.prio_workers.specs.Takes.{ListsLowNumber, ComesInTurn};
+ghost use Rattle.prio_workers.specs.declared.taking.Priority.TheVariants.{High, Normal, Low};
 
 use crate::creation::{Queues, SharedPasses};
 use crate::passes::{LowPush, PassParts, QueueSet, WorkerPass};
@@ -12,9 +16,10 @@ use std::marker::{Brand, PhantomData};
 use std::sync::{Condvar, Mutex, Wait};
 use std::thread::Threads;
 
-/// Names the queues that belong together: what stands behind a lock, or came out of a queue, is known by its type
-/// alone. A call picks the name by passing `Brand`.
+/// Names the queues that belong together: what stands behind a lock, or came out of a queue, is
+/// known by its type alone. A call picks the name by passing `Brand`.
 pub trait QueueName {
+    /// Which queues have the name.
     ghost queues: { QueuesId };
 }
 
@@ -29,21 +34,25 @@ struct Locked<J, N: QueueName> {
     /// How many jobs were pushed, and 1 more for a `close`. It may wrap.
     moves: u64,
     name: PhantomData<N>,
-    ghost belongs: { shared ≡ shared_passes_of N.queues shared.stored },
+    ghost belongs: { AreSharedOf N.queues shared },
 }
 
 impl<J: Numbered + Drop, N: QueueName> Locked<J, N> {
     fn push_high<R: Wait>(&mut self, rt: &R, set: &QueueSet<J>, job: J) -> Result<(), J>
-        requires { set.now ≡ N.queues }
-        ensures { IfErr result (λ back. back ≡ job) }
+        requires queues { set.now ≡ N.queues }
+        requires due { J.IsFor High job }
+        ensures pushed { OnOk result (self.new.shared ≡ after_high_push self.old.shared) }
+        ensures refused { IfErr result (HandsBack job self.old.shared self.new.shared) }
     {
         self.moves = self.moves.wrapping_add(1);
         self.shared.push_high(rt, set, job)
     }
 
     fn push_normal<R: Wait>(&mut self, rt: &R, set: &QueueSet<J>, job: J) -> Result<(), J>
-        requires { set.now ≡ N.queues }
-        ensures { IfErr result (λ back. back ≡ job) }
+        requires queues { set.now ≡ N.queues }
+        requires due { J.IsFor Normal job }
+        ensures pushed { OnOk result (self.new.shared ≡ after_normal_push self.old.shared) }
+        ensures refused { IfErr result (HandsBack job self.old.shared self.new.shared) }
     {
         self.moves = self.moves.wrapping_add(1);
         self.shared.push_normal(rt, set, job)
@@ -51,7 +60,7 @@ impl<J: Numbered + Drop, N: QueueName> Locked<J, N> {
 
     fn close(&mut self, set: &QueueSet<J>)
         requires { set.now ≡ N.queues }
-        ensures { self.new.shared.stored ≡ true }
+        ensures { self.new.shared ≡ after_close self.old.shared }
     {
         self.moves = self.moves.wrapping_add(1);
         self.shared.close(set);
@@ -68,8 +77,8 @@ pub struct Workers<J: Numbered + Drop, N: QueueName> {
 }
 
 impl<J: Numbered + Drop, N: QueueName> Workers<J, N> {
-    /// Shares the queues, and hands out what the producer of Low jobs and each worker hold of them. Nothing was
-    /// pushed yet, and no pass has popped or read anything.
+    /// Shares the queues, and hands out what the producer of Low jobs and each worker hold of them.
+    /// Nothing was pushed yet, and no pass has popped or read anything.
     pub fn new(queues: Queues<J>) -> (Workers<J, N>, LowPush<J>, Vec<WorkerPass<J>>)
         requires { queues.queues ≡ N.queues }
         ensures low_push { result.1 ≡ new_low_push N.queues }
@@ -109,8 +118,9 @@ impl<J: Numbered + Drop, N: QueueName> Workers<J, N> {
         locked.moves
     }
 
-    /// Pushes the Low job whose number comes next. The queues take memory from the allocator that they were made
-    /// with. Where there is none the job comes back, and no number is used up.
+    /// Pushes the Low job whose number comes next. The queues take memory from the allocator that
+    /// they were made with. Where there is none, or after nearly 2^62 pushes to this queue, where
+    /// its positions end, the job comes back, and no number is used up.
     pub fn push_low<R: Threads + Wait + Sync>(
         &self,
         rt: &R,
@@ -120,8 +130,9 @@ impl<J: Numbered + Drop, N: QueueName> Workers<J, N> {
     ) -> Result<(), (J, AllocError)>
         requires queue { by.old.queue ≡ N.queues.low }
         requires number { J.number job ≡ by.old.pushed }
-        ensures pushed { OnOk result (by.new ≡ record by.old { pushed = by.old.pushed + 1 }) }
-        ensures refused { IfErr result (λ e. (e.0 ≡ job) × (by.new ≡ by.old)) }
+        requires due { J.IsFor Low job }
+        ensures pushed { OnOk result (by.new ≡ after_low_push by.old) }
+        ensures refused { IfErr result (λ e. HandsBack job by.old by.new e.0) }
     {
         by.push(rt, &self.set.low, job)
             .map_err(|job| (job, AllocError))?;
@@ -129,13 +140,15 @@ impl<J: Numbered + Drop, N: QueueName> Workers<J, N> {
         Ok(())
     }
 
-    /// Pushes a Normal job. Where there is no memory for it, it comes back.
+    /// Pushes a Normal job. Where there is no memory for it, or after nearly 2^62 pushes to this
+    /// queue, where its positions end, it comes back.
     pub fn push_normal<R: Threads + Wait + Sync>(
         &self,
         rt: &R,
         _alloc: Global,
         job: J,
     ) -> Result<(), (J, AllocError)>
+        requires { J.IsFor Normal job }
         ensures { IfErr result (λ e. e.0 ≡ job) }
     {
         let pushed = self.locked.lock(rt).push_normal(rt, &self.set, job);
@@ -143,13 +156,15 @@ impl<J: Numbered + Drop, N: QueueName> Workers<J, N> {
         pushed.map_err(|job| (job, AllocError))
     }
 
-    /// Pushes a High job. Where there is no memory for it, it comes back.
+    /// Pushes a High job. Where there is no memory for it, or after nearly 2^62 pushes to this
+    /// queue, where its positions end, it comes back.
     pub fn push_high<R: Threads + Wait + Sync>(
         &self,
         rt: &R,
         _alloc: Global,
         job: J,
     ) -> Result<(), (J, AllocError)>
+        requires { J.IsFor High job }
         ensures { IfErr result (λ e. e.0 ≡ job) }
     {
         let pushed = self.locked.lock(rt).push_high(rt, &self.set, job);
@@ -157,22 +172,24 @@ impl<J: Numbered + Drop, N: QueueName> Workers<J, N> {
         pushed.map_err(|job| (job, AllocError))
     }
 
-    /// Closes the queues: a worker that finds them empty then stops. A job that is pushed later stays until somebody
-    /// takes it.
+    /// Closes the queues: a worker that finds them empty then stops. A job that is pushed later
+    /// stays until somebody takes it.
     pub fn close<R: Threads + Wait + Sync>(&self, rt: &R) {
         self.locked.lock(rt).close(&self.set);
         self.moved.notify_all();
     }
 
-    /// Takes a job, the first of the first queue that isn't empty, and waits for one where there is none. `Closed`
-    /// comes only where this pass has read that the queues are closed and then found each of them empty.
+    /// Takes a job, the first of the first queue that isn't empty, and waits for one where there is
+    /// none. `Closed` comes only where this pass has read that the queues are closed and then found
+    /// each of them empty.
     pub fn take<R: Threads + Wait + Sync>(&self, rt: &R, by: &mut WorkerPass<J>) -> Taken<J>
         requires { by.old.queues ≡ N.queues }
         ensures queues { by.new.queues ≡ by.old.queues }
         ensures never_fall { CountsNeverFall by.old.tally by.new.tally }
-        ensures gives { GivesOneJob J.number by.old.tally by.new.tally result }
+        ensures gives { GivesOneJob by.old.tally by.new.tally result }
+        ensures due { GivesJobOfQueue J.IsFor result }
         ensures lists { ListsLowNumber J.number by.old.tally by.new.tally result }
-        ensures turn { ComesInTurn J.number by.old.tally by.new.tally result }
+        ensures turn { ComesInTurn by.old.tally by.new.tally result }
     {
         let Some(parts) = by.parts.take() else {
             unreachable!()
@@ -189,9 +206,10 @@ impl<J: Numbered + Drop, N: QueueName> Workers<J, N> {
 }
 
 /// The pops of a worker pass.
-struct PassPops<'a, J: Numbered + Drop, N: QueueName> {
-    workers: &'a Workers<J, N>,
-    parts: PassParts<J>,
+#[derive(Drop)]
+pub(crate) struct PassPops<'a, J: Numbered + Drop, N: QueueName> {
+    pub(crate) workers: &'a Workers<J, N>,
+    pub(crate) parts: PassParts<J>,
     ghost belongs: { parts.queues ≡ N.queues },
 }
 
