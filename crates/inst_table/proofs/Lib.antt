@@ -6,6 +6,7 @@ pub mod Steps
 pub mod LookSteps
 pub mod Follows
 pub mod Buckets
+pub mod PointKey
 pub mod Tellings
 pub mod Starts
 pub mod Appends
