@@ -52,7 +52,7 @@ pub agrees : (asked : List (List ℕ)) (fits : Subject → List ℕ → Type 0) 
 agrees asked fits longest z rows x y by is keys s =
     let t = (knows_both x y by is).1 in let e = ap (λ (m : Me ℕ View). m.0.units.built) is in record {
       keys = keys;
-      addresses = λ unit word c. subst (λ (us : List Unit). address_of us unit ≡ word) e (s.known unit word (t.words (AddressWord unit word) c));
+      addresses = λ unit word c. subst (λ (us : List Unit). (word ≢ 0) × (address_of us unit ≡ word)) e (s.known unit word (t.words (AddressWord unit word) c));
       heap = λ at word c. subst (λ (us : List Unit). word ≡ get_or (heap_of us) at 0) e (s.heap_known at word (t.words (HeapWord at word) c));
     }
 
@@ -110,7 +110,7 @@ module _ (fits : Subject → List ℕ → Type 0) (z : Numbers) where
   unit_of u v rows us row None all knows long a r = dite (ℕ_discrete (address_of us (z.libraries + row)) 0) (λ e. e)
       (λ ne. absurd (ne (sym (r (address_of us (z.libraries + row)) (all (z.libraries + row) (address_of us (z.libraries + row)) refl ne)))))
   unit_of u v rows us row (Some items) all knows long a r =
-      let e : address_of us (z.libraries + row) ≡ r.0 = a.addresses (z.libraries + row) r.0 r.2 in
+      let e : address_of us (z.libraries + row) ≡ r.0 = (a.addresses (z.libraries + row) r.0 r.2).1 in
       ((λ y. r.1 (sym e ∙ y)), r.4, (λ at h. a.heap (r.0 - 1 + at) (get_or items.items at 0) (r.5 at h) ∙ ap (λ (w : ℕ). get_or (heap_of us) (w - 1 + at) 0) (sym e)), r.6 (key_at rows row) long knows)
 
   pub units_are : (u v : View) (rows : List (List ℕ)) (us : List Unit) (units : List (Option (Vec ℕ Global))) (count : ℕ) → ((unit word : ℕ) → address_of us unit ≡ word → word ≢ 0 → KnowsAddress u unit word)

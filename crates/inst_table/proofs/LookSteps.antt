@@ -102,13 +102,13 @@ differs c v row key t d e =
     d.4 (right.2 ∙ ap (λ (k : List ℕ). get_or k d.0 0) e)
 
 module _ (asked : List (List ℕ)) (fits : Subject → List ℕ → Type 0) (z : Numbers) where
-  pub counts : (n id : ℕ) (m : Me ℕ View) → z.rows < 2 ^ 32 → Allows (Rule asked fits z) n id m 0 (λ r. r) (reads_count (step n 0 0 0 none) m)
-  counts n id m small = loads asked fits z n id m 0 (λ r. counted r m.0) (reads_count (step n 0 0 0 none) m) (λ s l t.
+  pub counts : (n id : ℕ) (m : Me ℕ View) (room : ℕ) → z.rows ≤ room → z.rows < 2 ^ 32 → Allows (Rule asked fits z) n id m 0 (λ r. r) (reads_count room (step n 0 0 0 none) m)
+  counts n id m room fit small = loads asked fits z n id m 0 (λ r. counted r m.0) (reads_count room (step n 0 0 0 none) m) (λ s l t.
       let is = l.stands_for_rows.count in let low = t.seen in let behind = l.rows.behind in let room = l.rows.room in record {
         claims = Claims-seen l.content m.0 (get_or s.words 0 0) (m.0.looks + 1) (omega arith) (omega arith) t;
         creates = refl;
         publishes = refl;
-        tells = (refl, omega arith, omega arith);
+        tells = (refl, omega arith, omega arith, omega arith);
       })
 
   -- where a look-up ends, no row that is known has the key

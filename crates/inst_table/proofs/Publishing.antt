@@ -25,10 +25,11 @@ addressed_keeps : (unit word : ℕ) (known : List Known) (k : Known) → Contain
 addressed_keeps unit zero known k c = c
 addressed_keeps unit (suc place) known k c = contains-there known (AddressWord unit (suc place)) k c
 
-pub hears_all : (x y : Me ℕ View) (unit found word : ℕ) → found ≡ word → y ≡ (heard unit found x.0, x.1) → ((known : ℕ) → KnowsAddress x.0 unit known → found ≡ known) → IsOneWay y.0.mine → Hears x.0 y.0 unit word
+pub hears_all : (x y : Me ℕ View) (unit found word : ℕ) → found ≡ word → y ≡ (heard unit found x.0, x.1) → ((known : ℕ) → KnowsAddress x.0 unit known → (found ≡ known) × (known ≢ 0)) → IsOneWay y.0.mine → Hears x.0 y.0 unit word
 hears_all x y unit found word e is same one = record {
   mine = ap (λ (m : Me ℕ View). m.0.mine) is ∙ ap (λ (w : ℕ). x.0.mine ++ (unit, w) ∷ []) e;
-  same = λ known k. sym e ∙ same known k;
+  same = λ known k. sym e ∙ (same known k).0;
+  there = λ known k. (same known k).1;
   one_way = one;
 }
 

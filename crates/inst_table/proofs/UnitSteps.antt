@@ -143,7 +143,7 @@ module _ (asked : List (List ℕ)) (fits : Subject → List ℕ → Type 0) (z :
         claims = after;
         creates = refl;
         publishes = refl;
-        tells = (refl, (λ word k. let right : IsRight c m.0.seen (AddressWord unit word) = All-contains (IsRight c m.0.seen) m.0.known (AddressWord unit word) t.known k in sym is ∙ right.1), after.one_way);
+        tells = (refl, (λ word k. let right : IsRight c m.0.seen (AddressWord unit word) = All-contains (IsRight c m.0.seen) m.0.known (AddressWord unit word) t.known k in (sym is ∙ right.1, right.0)), after.one_way);
       })
 
   -- the record at an address that is known
@@ -234,7 +234,7 @@ module _ (asked : List (List ℕ)) (fits : Subject → List ℕ → Type 0) (z :
             heap_known = λ at word k. let right : IsRight c m.0.seen (HeapWord at word) = All-contains (IsRight c m.0.seen) m.0.known (HeapWord at word) t.known k in
                 right.1 ∙ ap (λ (y : Units). get_or (heap_of y.built) at 0) same;
             known = λ unit word k. let right : IsRight c m.0.seen (AddressWord unit word) = All-contains (IsRight c m.0.seen) m.0.known (AddressWord unit word) t.known k in
-                ap (λ (y : Units). address_of y.built unit) (sym same) ∙ right.1;
+                (right.0, ap (λ (y : Units). address_of y.built unit) (sym same) ∙ right.1);
           },
         );
       })

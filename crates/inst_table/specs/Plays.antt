@@ -1,5 +1,5 @@
 -- What each step tells: of the step, the seat before, the number found (at a store, the number stored) and the seat after.
-use Rattle.std.specs.Prelude.{◌≡◌, ℕ, ◌+◌, ◌^◌, ◌<◌, ◌≤◌, List, [], length, All, Contains, Option, Some, None, ◌-◌, slice_index}
+use Rattle.std.specs.Prelude.{◌≡◌, ◌≢◌, ℕ, ◌+◌, ◌^◌, ◌<◌, ◌≤◌, List, [], length, All, Contains, Option, Some, None, ◌-◌, slice_index}
 use Rattle.atomic_table.specs.Table.{Me, Step}
 use Rattle.inst_table.specs.Bucket.{key_words, buckets}
 use Rattle.inst_table.specs.Layout.{head_place, key_place, next_place, address_place, heap_place}
@@ -23,8 +23,8 @@ abbrev pub Play : Type 1
 Play = Step ℕ → Sat → ℕ → Sat → Type 0
 
 -- a load of the count
-abbrev pub reads_count : Play
-reads_count st m r n = (n ≡ (counted r m.0, m.1)) × (m.0.seen ≤ r) × (r < 2 ^ 32)
+abbrev pub reads_count : ℕ → Play
+reads_count room st m r n = (n ≡ (counted r m.0, m.1)) × (m.0.seen ≤ r) × (r < 2 ^ 32) × (r ≤ room)
 
 -- a look-up of the key among the rows below n comes to a row or to the end, where no row that is known has the key
 abbrev pub comes : ℕ → List ℕ → ℕ → Play
@@ -70,7 +70,7 @@ stores_count st m r n = n ≡ (with_count m.0, m.1)
 
 -- a load of the address word of a unit, which is the one that is known
 abbrev pub reads_address : ℕ → Play
-reads_address unit st m r n = (n ≡ (heard unit r m.0, m.1)) × ((word : ℕ) → KnowsAddress m.0 unit word → r ≡ word) × IsOneWay n.0.mine
+reads_address unit st m r n = (n ≡ (heard unit r m.0, m.1)) × ((word : ℕ) → KnowsAddress m.0 unit word → (r ≡ word) × (word ≢ 0)) × IsOneWay n.0.mine
 
 -- a load of a word of the record at an address word: whatever record is then known whole fits the unit
 abbrev pub reads_heap : (Subject → List ℕ → Type 0) → Numbers → ℕ → ℕ → ℕ → Play
@@ -92,7 +92,7 @@ pub record AreSoundUnits (asked : List (List ℕ)) (fits : Subject → List ℕ 
   pub within : length (heap_of v.units.built) ≤ z.heap
   pub inside : (unit : ℕ) → IsKnownUnit z v unit → unit < z.libraries + z.rows
   pub leaves_room : LeavesRoom asked fits longest z v
-  pub known : (unit word : ℕ) → KnowsAddress v unit word → address_of v.units.built unit ≡ word
+  pub known : (unit word : ℕ) → KnowsAddress v unit word → (word ≢ 0) × (address_of v.units.built unit ≡ word)
   pub heap_known : (at word : ℕ) → Contains v.known (HeapWord at word) → word ≡ slice_index (heap_of v.units.built) at
 
 -- a load by the publisher, who knows all units

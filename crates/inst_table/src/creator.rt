@@ -43,7 +43,7 @@ impl Creator {
         requires asked { Contains (F.asked (fit_of table.now)) key.now }
         ensures table { creator_home_of self.new ≡ creator_home_of self.old }
         ensures new { IfNew result (λ row. (¬ Contains (rows_of self.old) key.now) × (row ≡ length (rows_of self.old)) × (row < (numbers_of table.now).rows) × (rows_of self.new ≡ add (rows_of self.old) key.now)) }
-        ensures old { IfOld result (λ row. (row < length (rows_of self.old)) × (key_at (rows_of self.old) row ≡ key.now) × (rows_of self.new ≡ add (rows_of self.old) key.now)) }
+        ensures old { IfOld result (λ row. (row < length (rows_of self.old)) × (row < (numbers_of table.now).rows) × (key_at (rows_of self.old) row ≡ key.now) × (rows_of self.new ≡ add (rows_of self.old) key.now)) }
         ensures full { IfFull result (λ n. (¬ Contains (rows_of self.old) key.now) × (n ≡ length (rows_of self.old)) × (n ≡ (numbers_of table.now).rows) × (rows_of self.new ≡ rows_of self.old)) }
         ensures never_full { length (F.asked (fit_of table.now)) ≤ (numbers_of table.now).rows → IfFull result (λ _. ⊥) }
         ensures note { IfNote result (λ row note. (home_of note ≡ id_of table.now) × KnowsRow (view_of note) row key.now) }
@@ -57,7 +57,7 @@ impl Creator {
         requires asked { Contains (F.asked (fit_of table.now)) key.now }
         ensures table { creator_home_of self.new ≡ creator_home_of self.old }
         ensures new { IfNew result (λ row. NoneBetween (rows_of self.old) key.now 0 row × (row ≡ length (rows_of self.old)) × (row < K.room) × (rows_of self.new ≡ rows_of self.old ++ key.now ∷ [])) }
-        ensures old { IfOld result (λ row. (row < length (rows_of self.old)) × (key_at (rows_of self.old) row ≡ key.now) × (rows_of self.new ≡ rows_of self.old)) }
+        ensures old { IfOld result (λ row. (row < length (rows_of self.old)) × (row < K.room) × (key_at (rows_of self.old) row ≡ key.now) × (rows_of self.new ≡ rows_of self.old)) }
         ensures full { IfFull result (λ n. NoneBetween (rows_of self.old) key.now 0 n × (n ≡ length (rows_of self.old)) × (n ≡ K.room) × (rows_of self.new ≡ rows_of self.old)) }
         ensures sound { AreSound K.asked K.room (rows_of self.old) }
         ensures note { IfNote result (λ row note. (home_of note ≡ id_of table.now) × KnowsRow (view_of note) row key.now) }

@@ -14,13 +14,15 @@ use crate::table::Table;
 impl<F: Fit> Table<F> {
     ghost use Rattle.inst_table.specs.Names.{id_of, numbers_of};
 
-    pub(crate) fn count(&self, seat: &mut Seat) -> u32
-        requires { seat.old.table_id ≡ id_of self.now }
+    pub(crate) fn count<K: Operands>(&self, seat: &mut Seat) -> u32
+        requires table { seat.old.table_id ≡ id_of self.now }
+        requires room { K.room ≡ (numbers_of self.now).rows }
         ensures table { seat.new.table_id ≡ seat.old.table_id }
         ensures view { seat.new.me ≡ (counted result seat.old.me.0, seat.old.me.1) }
         ensures later { seat.old.me.0.seen ≤ result }
+        ensures room { result ≤ (numbers_of self.now).rows }
     {
-        self.words.shared.load::<ReadsCount>(seat, COUNT) as u32
+        self.words.shared.load::<ReadsCount<K>>(seat, COUNT) as u32
     }
 
     // 1 plus the newest row of the key's bucket, or 0.

@@ -46,13 +46,15 @@ impl Pass {
         ensures table { home_of self.new ≡ home_of self.old }
         ensures looks { LooksOnce (view_of self.old) (view_of self.new) }
         ensures hit { IfHit result (λ row. KnowsRow (view_of self.new) row key.now) }
+        ensures row { IfHit result (λ row. row < (numbers_of table.now).rows) }
         ensures miss { IfMiss result (λ n. ((view_of self.new).seen ≡ n) × ((view_of self.old).seen ≤ n) × Contains (view_of self.new).absent (key.now, n)) }
+        ensures room { IfMiss result (λ n. n ≤ (numbers_of table.now).rows) }
         ensures never_missed { IfMiss result (λ _. KnowsNoRow (view_of self.old) key.now) }
         ensures chain { LearnsAlongChain (view_of self.old) (view_of self.new) key.now }
         ensures knows { KnowsAtLeast (view_of self.old) (view_of self.new) }
         ensures mine { (view_of self.new).mine ≡ (view_of self.old).mine }
     {
-        let count = table.count(&mut self.seat);
+        let count = table.count::<Brand>(&mut self.seat);
         match table.follow::<Brand>(&mut self.seat, key, count) {
             Some(row) => Find::Hit(row),
             None => Find::Miss(count),

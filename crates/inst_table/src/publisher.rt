@@ -57,7 +57,7 @@ impl Publisher {
         ensures never_full { total (F.longest (fit_of table.now)) (all_subjects (numbers_of table.now).libraries (F.asked (fit_of table.now))) ≤ (numbers_of table.now).heap
             → IfHeapFull result (λ _. ⊥) }
         ensures note { IfAddress result (λ a note. (home_of note ≡ id_of table.now) × KnowsAtLeast (view_of by) (view_of note)
-            × KnowsAddress (view_of note) unit a.word) }
+            × KnowsAddress (view_of note) unit a.word × (a.word ≢ 0)) }
     {
         self.publish_in::<Brand, F>(table, unit, by, words)
     }
@@ -84,7 +84,7 @@ impl Publisher {
         ensures never_full { total (F.longest (fit_of table.now)) (all_subjects (numbers_of table.now).libraries (F.asked (fit_of table.now))) ≤ (numbers_of table.now).heap
             → IfHeapFull result (λ _. ⊥) }
         ensures note { IfAddress result (λ a note. (home_of note ≡ id_of table.now) × KnowsAtLeast (view_of by) (view_of note)
-            × KnowsAddress (view_of note) unit a.word) }
+            × KnowsAddress (view_of note) unit a.word × (a.word ≢ 0)) }
     {
         table.take_in(&mut self.seat, by);
         let word = table.own_address::<K>(&mut self.seat, unit);

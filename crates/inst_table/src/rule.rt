@@ -39,12 +39,14 @@ impl Operands for Brand {
     ghost below = { 0 };
 }
 
-pub struct ReadsCount;
+pub struct ReadsCount<K> {
+    marker: PhantomData<K>,
+}
 
-impl Play<u8, View> for ReadsCount {
+impl<K: Operands> Play<u8, View> for ReadsCount<K> {
     ghost use Rattle.inst_table.specs.Plays.{reads_count};
 
-    ghost then = { reads_count };
+    ghost then = { reads_count K.room };
 }
 
 pub struct Enters<K> {

@@ -34,8 +34,8 @@ impl<F: Fit> Table<F> {
         rows: u32,
         heap: u64,
     ) -> Result<(Table<F>, Pass, Creator, Publisher), AllocError>
-        requires { (F.count fit + rows < 2 ^ 32) × (heap < 2 ^ 62) }
-        ensures table { IfOk result (λ made. (fit_of made.0 ≡ fit) × (numbers_of made.0 ≡ record { libraries = F.count fit; rows = rows; heap = heap })) }
+        requires { (F.library_count fit + rows < 2 ^ 32) × (heap < 2 ^ 62) }
+        ensures table { IfOk result (λ made. (fit_of made.0 ≡ fit) × (numbers_of made.0 ≡ record { libraries = F.library_count fit; rows = rows; heap = heap })) }
         ensures pass { IfOk result (λ made. (home_of made.1 ≡ id_of made.0) × (view_of made.1 ≡ blank)) }
         ensures creator { IfOk result (λ made. (creator_home_of made.2 ≡ id_of made.0) × (rows_of made.2 ≡ [])) }
         ensures publisher { IfOk result (λ made. (publisher_home_of made.3 ≡ id_of made.0) × (units_of made.3 ≡ [])) }

@@ -27,7 +27,7 @@ impl<F: Fit> Table<F> {
         requires known { IsKnownUnit (numbers_of self.now) seat.old.me.0 unit }
         ensures table { seat.new.table_id ≡ seat.old.table_id }
         ensures view { seat.new.me ≡ (heard unit result seat.old.me.0, seat.old.me.1) }
-        ensures same { (word : ℕ) → KnowsAddress seat.old.me.0 unit word → result ≡ word }
+        ensures same { (word : ℕ) → KnowsAddress seat.old.me.0 unit word → (result ≡ word) × (word ≢ 0) }
         ensures one_way { IsOneWay seat.new.me.0.mine }
     {
         self.words

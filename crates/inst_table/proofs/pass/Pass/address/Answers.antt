@@ -1,3 +1,4 @@
+use Rattle.std.proofs.Common.{refl}
 use Rattle.inst_table.proofs.Publishing.{hears_all, hears_keeps}
 use Rattle.inst_table.proofs.pass.Pass.address.Goals as goal
 
@@ -7,3 +8,7 @@ returns-then-word-eq0-clause-heard g c = let read = c.read_address-word.ensures 
 
 pub returns-clause-knows : goal.returns-clause-knows
 returns-clause-knows g c = hears_keeps c.args.self.now.seat.me c.read_address-word.new.seat.me c.args.unit c.read_address-word.result c.read_address-word.ensures.view
+
+pub returns-clause-heard : goal.returns-clause-heard
+returns-clause-heard g c = let read = c.read_address-word.ensures in
+    hears_all c.args.self.now.seat.me c.read_address-word.new.seat.me c.args.unit c.read_address-word.result c.read_address-word.result refl read.view read.same read.one_way
