@@ -7,7 +7,7 @@ pub mod LookSteps
 pub mod Follows
 pub mod Buckets
 pub mod PointKey
-pub mod Tellings
+pub mod Sharing
 pub mod Starts
 pub mod Appends
 pub mod Within

@@ -9,7 +9,7 @@ use Rattle.inst_table.specs.Passes.{KnowsRow, KnowsAddress, KnowsRecord}
 use Rattle.inst_table.specs.declared.setup.Numbers.{Numbers}
 use Rattle.inst_table.specs.declared.view.View.{View}
 use Rattle.inst_table.specs.declared.view.Unit.{Unit}
-use Rattle.inst_table.specs.declared.view.Known.TheVariants.{KeyWord, HeapWord}
+use Rattle.inst_table.specs.declared.view.KnownWord.TheVariants.{KeyWord, HeapWord}
 
 -- The key words that are known are those of the rows.
 abbrev pub KnowsRightKeys : View → List (List ℕ) → Type 0

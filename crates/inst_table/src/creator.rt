@@ -8,7 +8,7 @@ ghost use Rattle.inst_table.specs.Plays.{AreSound};
 
 use crate::KEY_WORDS;
 use crate::pass::Pass;
-use crate::rule::{Asked, Seat};
+use crate::rule::{RowOperands, Seat};
 use crate::setup::Fit;
 use crate::table::Table;
 use std::marker::Brand;
@@ -51,7 +51,11 @@ impl Creator {
         self.create_in::<Brand, F>(table, key)
     }
 
-    fn create_in<K: Asked, F: Fit>(&mut self, table: &Table<F>, key: &[u64; KEY_WORDS]) -> Created
+    fn create_in<K: RowOperands, F: Fit>(
+        &mut self,
+        table: &Table<F>,
+        key: &[u64; KEY_WORDS],
+    ) -> Created
         requires table { creator_home_of self.old ≡ id_of table.now }
         requires named { (K.asked ≡ F.asked (fit_of table.now)) × (K.room ≡ (numbers_of table.now).rows) }
         requires asked { Contains (F.asked (fit_of table.now)) key.now }

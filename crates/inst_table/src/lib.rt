@@ -24,7 +24,7 @@ pub use pass::{Address, Find, Pass};
 pub use publisher::{Published, Publisher};
 pub use setup::{Fit, Numbers, Setup};
 pub use table::Table;
-pub use view::{Known, Rows, Unit, Units, View, Walk};
+pub use view::{KnownWord, Rows, Unit, Units, View, Walk};
 
 /// The number of buckets.
 pub const BUCKETS: usize = 256;

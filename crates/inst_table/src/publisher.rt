@@ -6,7 +6,7 @@ ghost use Rattle.inst_table.specs.Passes.{KnowsAddress, KnowsAtLeast, MayPublish
 ghost use Rattle.inst_table.specs.Publications.{IfAccepted, IfAlready, IfHeapFull, IfAddress};
 
 use crate::pass::{Address, Pass};
-use crate::rule::{Meaning, Seat};
+use crate::rule::{Seat, UnitOperands};
 use crate::setup::Fit;
 use crate::table::Table;
 use std::marker::Brand;
@@ -62,7 +62,7 @@ impl Publisher {
         self.publish_in::<Brand, F>(table, unit, by, words)
     }
 
-    fn publish_in<K: Meaning<F>, F: Fit>(
+    fn publish_in<K: UnitOperands<F>, F: Fit>(
         &mut self,
         table: &Table<F>,
         unit: u32,

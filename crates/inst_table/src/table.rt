@@ -7,7 +7,7 @@ use crate::creator::Creator;
 use crate::layout::width;
 use crate::pass::Pass;
 use crate::publisher::Publisher;
-use crate::rule::{HandsOver, Law, Tells};
+use crate::rule::{Law, SplitsCreator, SplitsPass};
 use crate::setup::{Fit, Numbers, Setup};
 use crate::view::View;
 use std::alloc::{AllocError, Global};
@@ -18,8 +18,8 @@ pub struct Table<F: Fit> {
     pub(crate) words: atomic_table::Table<u8, View, Setup<F>, Law<F>, Global>,
     fit: F,
     pub(crate) numbers: Numbers,
-    ghost kept: { words.shared.key.fit ≡ fit },
-    ghost told: { words.shared.key.numbers ≡ numbers },
+    ghost fit_kept: { words.shared.key.fit ≡ fit },
+    ghost numbers_kept: { words.shared.key.numbers ≡ numbers },
     ghost sized: { words.shared.table_id.words ≡ width numbers },
     ghost small: { (numbers.libraries + numbers.rows < 2 ^ 32) × (numbers.heap < 2 ^ 62) },
 }
@@ -50,8 +50,8 @@ impl<F: Fit> Table<F> {
         let setup = Setup { fit, numbers };
         let (words, mut seat) = atomic_table::Table::of_words(alloc, &zeros, &setup)?;
         let Setup { fit, numbers } = setup;
-        let creator = words.shared.split_seat::<HandsOver>(&mut seat);
-        let pass = words.shared.split_seat::<Tells>(&mut seat);
+        let creator = words.shared.split_seat::<SplitsCreator>(&mut seat);
+        let pass = words.shared.split_seat::<SplitsPass>(&mut seat);
         Ok((
             Table {
                 words,

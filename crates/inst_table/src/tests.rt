@@ -90,7 +90,7 @@ impl Table<Keys> {
     }
 
     // The row of a key, with a pass that knows it.
-    fn added(&self, creator: &mut Creator, key: &[u64; KEY_WORDS]) -> Result<(u32, Pass), u32>
+    fn add_row(&self, creator: &mut Creator, key: &[u64; KEY_WORDS]) -> Result<(u32, Pass), u32>
         requires table { creator_home_of creator.old ≡ id_of self.now }
         requires asked { Contains (fit_of self.now).keys.items key.now }
         ensures table { creator_home_of creator.new ≡ creator_home_of creator.old }
@@ -114,7 +114,11 @@ impl Table<Keys> {
     }
 
     // The row of a key and the address of its unit.
-    fn seen(&self, pass: &mut Pass, key: &[u64; KEY_WORDS]) -> Result<(u32, Option<Address>), u32>
+    fn look_up(
+        &self,
+        pass: &mut Pass,
+        key: &[u64; KEY_WORDS],
+    ) -> Result<(u32, Option<Address>), u32>
         requires table { home_of pass.old ≡ id_of self.now }
         ensures table { home_of pass.new ≡ home_of pass.old }
         ensures row { IfOk result (λ r. HasKey (view_of pass.new) r.0) }
@@ -136,7 +140,7 @@ impl Table<Keys> {
         for _ in 0..rounds {
             for at in 0..3 {
                 let before: (Option<u32>, Option<Address>) = (rows[at], addresses[at]);
-                match (before, self.seen(&mut pass, &self.key_of(at))) {
+                match (before, self.look_up(&mut pass, &self.key_of(at))) {
                     ((None, _), Err(_)) => {}
                     ((Some(_), _), Err(_)) => return false,
                     ((old_row, old_address), Ok((row, address))) => {
@@ -160,7 +164,7 @@ impl Table<Keys> {
         ensures { creator_home_of result ≡ id_of self.now }
     {
         for at in 0..3 {
-            let _ = self.added(&mut creator, &self.key_of(at));
+            let _ = self.add_row(&mut creator, &self.key_of(at));
         }
         creator
     }
@@ -180,7 +184,7 @@ impl Table<Keys> {
     {
         for at in 0..3 {
             for _ in 0..tries {
-                if let Ok((row, _)) = self.seen(&mut pass, &self.key_of(at)) {
+                if let Ok((row, _)) = self.look_up(&mut pass, &self.key_of(at)) {
                     let note = pass.split(self);
                     self.put(&mut publisher, row, note, words);
                     break;
@@ -208,11 +212,11 @@ fn rows_and_heap_are_full_exactly_at_their_ends(rt: HostRuntime) -> Result<(), F
     assert!(rt; fits);
     let (table, _pass, mut creator, mut publisher) = make_parts(rt.alloc(), 1, 69)?;
     let (first, second) = (table.key_of(0), table.key_of(1));
-    let Ok((row, note)) = table.added(&mut creator, &first) else {
+    let Ok((row, note)) = table.add_row(&mut creator, &first) else {
         panic!(rt; "no room")
     };
     assert_eq!(rt; row, 0);
-    assert!(rt; matches!(table.added(&mut creator, &second), Err(1)));
+    assert!(rt; matches!(table.add_row(&mut creator, &second), Err(1)));
     let answer = table.put(&mut publisher, row, note, &words);
     assert!(rt; matches!(answer, Published::HeapFull(0)));
     Ok(())
@@ -225,7 +229,7 @@ fn one_record_is_accepted(rt: HostRuntime) -> Result<(), Fail> {
     assert!(rt; fits);
     let (table, mut pass, mut creator, mut publisher) = make_parts(rt.alloc(), 1, 70)?;
     let key = table.key_of(0);
-    let Ok((row, note)) = table.added(&mut creator, &key) else {
+    let Ok((row, note)) = table.add_row(&mut creator, &key) else {
         panic!(rt; "no room")
     };
     let Published::Accepted { address, note } = table.put(&mut publisher, row, note, &words) else {
@@ -233,7 +237,7 @@ fn one_record_is_accepted(rt: HostRuntime) -> Result<(), Fail> {
     };
     assert_eq!(rt; address, Address { unit: 0, word: 1 });
     pass.join(&table, note);
-    let Ok((row, note)) = table.added(&mut creator, &key) else {
+    let Ok((row, note)) = table.add_row(&mut creator, &key) else {
         panic!(rt; "no room")
     };
     let Published::Already { address, note: _ } = table.put(&mut publisher, row, note, &words)
@@ -241,7 +245,7 @@ fn one_record_is_accepted(rt: HostRuntime) -> Result<(), Fail> {
         panic!(rt; "accepted twice")
     };
     assert_eq!(rt; address, Address { unit: 0, word: 1 });
-    let Ok((row, Some(address))) = table.seen(&mut pass, &key) else {
+    let Ok((row, Some(address))) = table.look_up(&mut pass, &key) else {
         panic!(rt; "not seen")
     };
     let fetched = pass.fetch(rt.alloc(), &table, address)?;
@@ -265,8 +269,8 @@ fn a_key_is_found_along_the_chain_of_its_bucket(rt: HostRuntime) -> Result<(), F
     let (table, mut pass, mut creator, _publisher) = make_parts(rt.alloc(), 3, 0)?;
     let (first, second, third) = (table.key_of(0), table.key_of(1), table.key_of(2));
     let (one, two) = (
-        table.added(&mut creator, &first).is_ok(),
-        table.added(&mut creator, &second).is_ok(),
+        table.add_row(&mut creator, &first).is_ok(),
+        table.add_row(&mut creator, &second).is_ok(),
     );
     assert!(rt; one && two);
     let found = pass.find(&table, &second);

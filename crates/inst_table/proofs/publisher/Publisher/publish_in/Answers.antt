@@ -31,7 +31,7 @@ returns-then-after-table-clause-heap_full g c =
     let t = taken c.args.self.now.seat.me c.take_in.new.seat.me c.args.by.seat.me.0 c.take_in.ensures.view in let own = c.own_address-word.ensures in
     let may = may_still (g.F.Fit.fits c.args.table.now.words.shared.key.fit) c.args.table.now.words.shared.key.numbers c.args.self.now.seat.me c.take_in.new.seat.me c.args.by.seat.me.0 c.args.unit c.args.words.now c.take_in.ensures.view c.requires.record.1 in
     let word = own.word (own.sound.inside c.args.unit (is_known (g.F.Fit.fits c.args.table.now.words.shared.key.fit) c.args.table.now.words.shared.key.numbers c.take_in.new.seat.me.0 c.args.unit c.args.words.now may)) in
-    let room = ap (λ (n : Numbers). n.heap) c.args.table.now.told in (
+    let room = ap (λ (n : Numbers). n.heap) c.args.table.now.numbers_kept in (
       sym (sym c.if-word-ne0.false ∙ word ∙ ap (λ (y : Units). address_of y.built c.args.unit) t.units),
       sym c.args.self.now.rests.1,
       omega (arith, c.if-after-table.true),
@@ -43,7 +43,7 @@ returns-then-after-table-clause-never_full g c fit =
     let t = taken c.args.self.now.seat.me c.take_in.new.seat.me c.args.by.seat.me.0 c.take_in.ensures.view in let own = c.own_address-word.ensures in
     let may = may_still (g.F.Fit.fits c.args.table.now.words.shared.key.fit) c.args.table.now.words.shared.key.numbers c.args.self.now.seat.me c.take_in.new.seat.me c.args.by.seat.me.0 c.args.unit c.args.words.now c.take_in.ensures.view c.requires.record.1 in
     let word = own.word (own.sound.inside c.args.unit (is_known (g.F.Fit.fits c.args.table.now.words.shared.key.fit) c.args.table.now.words.shared.key.numbers c.take_in.new.seat.me.0 c.args.unit c.args.words.now may)) in
-    let room = ap (λ (n : Numbers). n.heap) c.args.table.now.told in
+    let room = ap (λ (n : Numbers). n.heap) c.args.table.now.numbers_kept in
     let left = own.sound.leaves_room fit c.args.unit c.args.words.now may (sym word ∙ c.if-word-ne0.false) in
     let same = ap (λ (y : Units). length (heap_of y.built)) t.units in
     omega (arith, c.if-after-table.true, c.args.self.now.rests.1)
@@ -75,7 +75,7 @@ returns-clause-accepted g c =
     let t = taken c.args.self.now.seat.me c.take_in.new.seat.me c.args.by.seat.me.0 c.take_in.ensures.view in let own = c.own_address-word.ensures in
     let may = may_still (g.F.Fit.fits c.args.table.now.words.shared.key.fit) c.args.table.now.words.shared.key.numbers c.args.self.now.seat.me c.take_in.new.seat.me c.args.by.seat.me.0 c.args.unit c.args.words.now c.take_in.ensures.view c.requires.record.1 in
     let word = own.word (own.sound.inside c.args.unit (is_known (g.F.Fit.fits c.args.table.now.words.shared.key.fit) c.args.table.now.words.shared.key.numbers c.take_in.new.seat.me.0 c.args.unit c.args.words.now may)) in
-    let room = ap (λ (n : Numbers). n.heap) c.args.table.now.told in
+    let room = ap (λ (n : Numbers). n.heap) c.args.table.now.numbers_kept in
     (sym (sym c.if-word-ne0.false ∙ word ∙ ap (λ (y : Units). address_of y.built c.args.unit) t.units), omega (arith, c.if-after-table.false, c.args.self.now.rests.1), refl, omega (arith, c.args.self.now.rests.1), a.built)
 
 pub returns-clause-note : goal.returns-clause-note

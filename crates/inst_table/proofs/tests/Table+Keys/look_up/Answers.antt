@@ -1,6 +1,6 @@
 use Rattle.std.proofs.Common.{inr, arith}
 use Rattle.inst_table.proofs.Follows.{KnowsRow-keeps}
-use Rattle.inst_table.proofs.tests.Table+Keys.seen.Goals as goal
+use Rattle.inst_table.proofs.tests.Table+Keys.look_up.Goals as goal
 
 pub address-requires-clause-known : goal.address-requires-clause-known
 address-requires-clause-known c κs = inr (c.in-Hit.row, c.args.key.now, omega (arith, c.args.self.now.words.shared.key.libraries), c.in-Hit.ensures.hit)

@@ -11,8 +11,8 @@ word_of None = 0
 word_of (Some address) = address.word
 
 -- One load of the unit's address word, which gave this word. It is the one that was known, which isn't 0, and what the loads of an address gave goes one way.
-pub record Hears (v w : View) (unit word : ℕ) : Type 0 where
-  pub mine : w.mine ≡ v.mine ++ (unit, word) ∷ []
+pub record LoadsAddress (v w : View) (unit word : ℕ) : Type 0 where
+  pub address_loads : w.address_loads ≡ v.address_loads ++ (unit, word) ∷ []
   pub same : (known : ℕ) → KnowsAddress v unit known → word ≡ known
   pub there : (known : ℕ) → KnowsAddress v unit known → known ≢ 0
-  pub one_way : IsOneWay w.mine
+  pub one_way : IsOneWay w.address_loads
