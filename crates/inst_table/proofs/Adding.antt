@@ -6,7 +6,7 @@ use Rattle.std.proofs.lemmas.List.{get_or_default}
 use Rattle.std.proofs.lemmas.Slice.Eq.{bytes_eq-Decides}
 use Rattle.atomic_table.specs.Table.{Me}
 use Rattle.inst_table.specs.Bucket.{key_words}
-use Rattle.inst_table.specs.Views.{told_of_rows, added}
+use Rattle.inst_table.specs.Views.{row_note, with_row}
 use Rattle.inst_table.specs.Passes.{KnowsRow}
 use Rattle.inst_table.proofs.Appends.{note_knows}
 use Rattle.inst_table.specs.Layout.{next_place}
@@ -75,12 +75,12 @@ full_never asked rows key room n sound may fit free long full =
     (All-push (Contains asked) rows key sound.asked_for may) in omega arith
 
 -- the pass that comes with a row knows it
-pub note_of_old : (x y : Me ℕ View) (u : View) (row count : ℕ) (key : List ℕ) → y ≡ x → u ≡ told_of_rows y.0 → length x.0.rows.linked ≡ count → row < count → key_at x.0.rows.linked row ≡ key → length key ≡ key_words → KnowsRow u row key
-note_of_old x y u row count key same is full near has long = note_knows x.0 u row key (is ∙ ap (λ (m : Me ℕ View). told_of_rows m.0) same) (omega arith) has long
+pub note_of_old : (x y : Me ℕ View) (u : View) (row count : ℕ) (key : List ℕ) → y ≡ x → u ≡ row_note y.0 → length x.0.rows.linked ≡ count → row < count → key_at x.0.rows.linked row ≡ key → length key ≡ key_words → KnowsRow u row key
+note_of_old x y u row count key same is full near has long = note_knows x.0 u row key (is ∙ ap (λ (m : Me ℕ View). row_note m.0) same) (omega arith) has long
 
-pub note_of_new : (w x y : Me ℕ View) (u : View) (count : ℕ) (key : List ℕ) → x ≡ w → y ≡ (added key x.0, x.1) → u ≡ told_of_rows y.0 → length w.0.rows.linked ≡ count → length key ≡ key_words → KnowsRow u count key
+pub note_of_new : (w x y : Me ℕ View) (u : View) (count : ℕ) (key : List ℕ) → x ≡ w → y ≡ (with_row key x.0, x.1) → u ≡ row_note y.0 → length w.0.rows.linked ≡ count → length key ≡ key_words → KnowsRow u count key
 note_of_new w x y u count key same more is full long =
-    let v : View = added key w.0 in
-    let is' : u ≡ told_of_rows v = is ∙ ap (λ (m : Me ℕ View). told_of_rows m.0) more ∙ ap (λ (m : Me ℕ View). told_of_rows (added key m.0)) same in
+    let v : View = with_row key w.0 in
+    let is' : u ≡ row_note v = is ∙ ap (λ (m : Me ℕ View). row_note m.0) more ∙ ap (λ (m : Me ℕ View). row_note (with_row key m.0)) same in
     let e = length-push w.0.rows.linked key in
     note_knows v u count key is' (omega arith) (subst (λ (k : ℕ). key_at (w.0.rows.linked ++ key ∷ []) k ≡ key) full (at_push w.0.rows.linked key [])) long

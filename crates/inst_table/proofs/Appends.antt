@@ -9,9 +9,9 @@ use Rattle.inst_table.specs.Bucket.{key_words, buckets, bucket_of}
 use Rattle.inst_table.specs.Subject.{Subject, pair}
 use Rattle.inst_table.specs.Layout.{count_place, head_place, key_place, next_place, row_place, address_place, heap_place}
 use Rattle.inst_table.specs.Chain.{key_at, key_word, bucket_at, newest}
-use Rattle.inst_table.specs.Views.{with_rows, drafted, with_next, with_head, with_count, not_creating, told_of_rows, words_of_row, words_of_rows}
+use Rattle.inst_table.specs.Views.{with_rows, rows_with_word, rows_with_next, rows_with_head, with_count, without_creation, row_note, words_of_row, words_of_rows}
 use Rattle.inst_table.specs.Passes.{KnowsRow}
-use Rattle.inst_table.specs.Plays.{IsOfRows, AreSound, checks_rows, stores_key_word, stores_next, stores_head, stores_count}
+use Rattle.inst_table.specs.Plays.{IsOfRows, AreSound, RowReload, KeyWordStore, NextStore, HeadStore, CountStore}
 use Rattle.inst_table.specs.Lawful.{Content, Claims, IsRight, NoneBetween, StandsForUnits, UnitsAreSound, IsBuilt}
 use Rattle.inst_table.specs.declared.setup.Numbers.{Numbers}
 use Rattle.inst_table.specs.declared.view.View.{View}
@@ -22,9 +22,9 @@ use Rattle.inst_table.proofs.Lists.{other, here, at_left, at_push, length-push, 
 use Rattle.inst_table.proofs.Chains.{newest-same, newest-here, newest-other}
 use Rattle.inst_table.proofs.Growth.{Grows, Claims-grow}
 use Rattle.inst_table.proofs.LookSteps.{Claims-seen}
-use Rattle.inst_table.specs.declared.view.Known.TheVariants.{KeyWord}
+use Rattle.inst_table.specs.declared.view.KnownWord.TheVariants.{KeyWord}
 use Rattle.inst_table.proofs.Follows.{contains-here, contains-there}
-use Rattle.inst_table.proofs.Tellings.{Claims-not_creating, Claims-fresh}
+use Rattle.inst_table.proofs.Sharing.{Claims-without_creation, Claims-fresh}
 use Rattle.inst_table.proofs.Steps.{Rule, loads, stores, splits}
 
 -- a store into the rows leaves the units
@@ -61,13 +61,13 @@ units_still fits z x x' y more same t = record {
 -- the creator's view, with other rows
 Claims-rows : (c d : Content) (v : View) (rows : Rows) → Grows c d → c.rows.count ≤ length c.rows.linked → c.units ≡ d.units → rows ≡ d.rows → Claims c v → Claims d (with_rows rows v)
 Claims-rows c d v rows g behind units is t =
-    let b : Claims d (not_creating v) = Claims-grow c d g behind (not_creating v) (Claims-not_creating c v t) (λ y. cc) (λ y. t.publishes y ∙ units) in record {
+    let b : Claims d (without_creation v) = Claims-grow c d g behind (without_creation v) (Claims-without_creation c v t) (λ y. cc) (λ y. t.publishes y ∙ units) in record {
       seen = b.seen;
       known = b.known;
       absent = b.absent;
       walk = b.walk;
       walked = b.walked;
-      heard = b.heard;
+      loads = b.loads;
       one_way = b.one_way;
       creates = λ y. is;
       publishes = b.publishes;
@@ -112,7 +112,7 @@ rows_contain row (key ∷ keys) (suc k) at h h' = let e : row + 1 + k ≡ row + 
     (subst (λ (r : ℕ). Contains (words_of_rows (row + 1) keys) (KeyWord r at (get_or (get_or keys k []) at 0))) e (rows_contain (row + 1) keys k at (omega arith) h'))
 
 -- such a pass knows the row
-pub note_knows : (v u : View) (row : ℕ) (key : List ℕ) → u ≡ told_of_rows v → row < length v.rows.linked → key_at v.rows.linked row ≡ key → length key ≡ key_words → KnowsRow u row key
+pub note_knows : (v u : View) (row : ℕ) (key : List ℕ) → u ≡ row_note v → row < length v.rows.linked → key_at v.rows.linked row ≡ key → length key ≡ key_words → KnowsRow u row key
 note_knows v u row key is near same long at inside =
     let e : 0 + row ≡ row = omega arith in
     let fit : at < length (key_at v.rows.linked row) = subst (λ (k : List ℕ). at < length k) (sym same) (omega arith) in
@@ -123,8 +123,8 @@ note_knows v u row key is near same long at inside =
 
 module _ (asked : List (List ℕ)) (fits : Subject → List ℕ → Type 0) (z : Numbers) where
   pub checks : (n id : ℕ) (m : Me ℕ View) (i : ℕ) (keys : List (List ℕ)) (room : ℕ) → keys ≡ asked → room ≡ z.rows → m.0.creates ≡ true
-      → Allows (Rule asked fits z) n id m i (λ r. r) (checks_rows keys room (step n i 0 0 none) m)
-  checks n id m i keys room same_keys same_room creates = loads asked fits z n id m i (λ r. m.0) (checks_rows keys room (step n i 0 0 none) m) (λ s l t.
+      → Allows (Rule asked fits z) n id m i (λ r. r) (RowReload keys room (step n i 0 0 none) m)
+  checks n id m i keys room same_keys same_room creates = loads asked fits z n id m i (λ r. m.0) (RowReload keys room (step n i 0 0 none) m) (λ s l t.
       let c : Content = l.content in let r : ℕ = get_or s.words i 0 in
       let of_rows : IsOfRows c.rows i r = record {
         heads = λ b h e. ap (λ (k : ℕ). get_or s.words k 0) e ∙ l.stands_for_rows.heads b h;
@@ -148,12 +148,12 @@ module _ (asked : List (List ℕ)) (fits : Subject → List ℕ → Type 0) (z :
 
   pub drafts : (n id : ℕ) (m : Me ℕ View) (row at i new : ℕ) → i ≡ key_place row at → m.0.creates ≡ true → length m.0.rows.linked ≡ row → m.0.rows.count ≡ row → row < z.rows
       → length m.0.rows.draft ≡ at → at < key_words → m.0.rows.joined ≡ false
-      → Allows (Rule asked fits z) n id m i (λ _. new) (λ _. stores_key_word (step n i new 0 none) m new)
-  drafts n id m row at i new place creates full counted room long inside open' = stores asked fits z n id m i new (with_rows (drafted new m.0.rows) m.0) (stores_key_word (step n i new 0 none) m new) (λ s l t.
+      → Allows (Rule asked fits z) n id m i (λ _. new) (λ _. KeyWordStore (step n i new 0 none) m new)
+  drafts n id m row at i new place creates full counted room long inside open' = stores asked fits z n id m i new (with_rows (rows_with_word new m.0.rows) m.0) (KeyWordStore (step n i new 0 none) m new) (λ s l t.
       let c : Content = l.content in let x : Rows = c.rows in let same : m.0.rows ≡ x = t.creates creates in
       let e₁ = ap (λ (k : Rows). length k.linked) same in let e₂ = ap (λ (k : Rows). k.count) same in let e₃ = ap (λ (k : Rows). length k.draft) same in
       let e₄ : x.joined ≡ false = sym (ap (λ (k : Rows). k.joined) same) ∙ open' in
-      let y : Rows = drafted new x in
+      let y : Rows = rows_with_word new x in
       let d : Content = record { rows = y; units = c.units } in
       let wide = l.wide in
       let g : Grows c d = grows_rows c y (omega arith) (omega arith) (λ k h. refl) in
@@ -184,7 +184,7 @@ module _ (asked : List (List ℕ)) (fits : Subject → List ℕ → Type 0) (z :
           distinct = r.distinct;
         };
         units = units_still fits z x y c.units (omega arith) (λ k h. refl) l.units;
-        claims = Claims-rows c d m.0 (drafted new m.0.rows) g l.rows.behind refl (ap (drafted new) same) t;
+        claims = Claims-rows c d m.0 (rows_with_word new m.0.rows) g l.rows.behind refl (ap (rows_with_word new) same) t;
         creates = refl;
         publishes = refl;
         by_creator = inr creates;
@@ -194,11 +194,11 @@ module _ (asked : List (List ℕ)) (fits : Subject → List ℕ → Type 0) (z :
 
   pub nexts : (n id : ℕ) (m : Me ℕ View) (row i new : ℕ) → i ≡ next_place row → m.0.creates ≡ true → length m.0.rows.linked ≡ row → row < z.rows
       → length m.0.rows.draft ≡ key_words → m.0.rows.joined ≡ false → new ≡ newest (bucket_at m.0.rows.linked) (bucket_of m.0.rows.draft) row
-      → Allows (Rule asked fits z) n id m i (λ _. new) (λ _. stores_next (step n i new 0 none) m new)
-  nexts n id m row i new place creates full room long open' is = stores asked fits z n id m i new (with_rows (with_next m.0.rows) m.0) (stores_next (step n i new 0 none) m new) (λ s l t.
+      → Allows (Rule asked fits z) n id m i (λ _. new) (λ _. NextStore (step n i new 0 none) m new)
+  nexts n id m row i new place creates full room long open' is = stores asked fits z n id m i new (with_rows (rows_with_next m.0.rows) m.0) (NextStore (step n i new 0 none) m new) (λ s l t.
       let c : Content = l.content in let x : Rows = c.rows in let same : m.0.rows ≡ x = t.creates creates in
       let e₁ = ap (λ (k : Rows). length k.linked) same in let e₃ = ap (λ (k : Rows). length k.draft) same in
-      let y : Rows = with_next x in
+      let y : Rows = rows_with_next x in
       let d : Content = record { rows = y; units = c.units } in
       let wide = l.wide in
       let g : Grows c d = grows_rows c y (omega arith) (omega arith) (λ k h. refl) in
@@ -230,7 +230,7 @@ module _ (asked : List (List ℕ)) (fits : Subject → List ℕ → Type 0) (z :
           distinct = r.distinct;
         };
         units = units_still fits z x y c.units (omega arith) (λ k h. refl) l.units;
-        claims = Claims-rows c d m.0 (with_next m.0.rows) g l.rows.behind refl (ap with_next same) t;
+        claims = Claims-rows c d m.0 (rows_with_next m.0.rows) g l.rows.behind refl (ap rows_with_next same) t;
         creates = refl;
         publishes = refl;
         by_creator = inr creates;
@@ -240,15 +240,15 @@ module _ (asked : List (List ℕ)) (fits : Subject → List ℕ → Type 0) (z :
 
   pub heads : (n id : ℕ) (m : Me ℕ View) (row i new : ℕ) → i ≡ head_place (bucket_of m.0.rows.draft) → bucket_of m.0.rows.draft < buckets → m.0.creates ≡ true → length m.0.rows.linked ≡ row
       → length m.0.rows.draft ≡ key_words → m.0.rows.joined ≡ true → new ≡ row + 1 → Contains asked m.0.rows.draft → NoneBetween m.0.rows.linked m.0.rows.draft 0 row
-      → Allows (Rule asked fits z) n id m i (λ _. new) (λ _. stores_head (step n i new 0 none) m new)
-  heads n id m row i new place small creates full long closed is may free = stores asked fits z n id m i new (with_rows (with_head m.0.rows) m.0) (stores_head (step n i new 0 none) m new) (λ s l t.
+      → Allows (Rule asked fits z) n id m i (λ _. new) (λ _. HeadStore (step n i new 0 none) m new)
+  heads n id m row i new place small creates full long closed is may free = stores asked fits z n id m i new (with_rows (rows_with_head m.0.rows) m.0) (HeadStore (step n i new 0 none) m new) (λ s l t.
       let c : Content = l.content in let x : Rows = c.rows in let same : m.0.rows ≡ x = t.creates creates in
       let e₁ = ap (λ (k : Rows). length k.linked) same in let e₃ = ap (λ (k : Rows). length k.draft) same in
       let e₄ : x.joined ≡ true = sym (ap (λ (k : Rows). k.joined) same) ∙ closed in
       let b₀ : ℕ = bucket_of x.draft in
       let place' : i ≡ head_place b₀ = place ∙ ap (λ (k : Rows). head_place (bucket_of k.draft)) same in
       let small' : b₀ < buckets = subst (λ (k : Rows). bucket_of k.draft < buckets) same small in
-      let y : Rows = with_head x in
+      let y : Rows = rows_with_head x in
       let top : ℕ = length x.linked in
       let d : Content = record { rows = y; units = c.units } in
       let wide = l.wide in
@@ -294,7 +294,7 @@ module _ (asked : List (List ℕ)) (fits : Subject → List ℕ → Type 0) (z :
           distinct = AreDistinct-push x.linked x.draft [] (λ k h e. let f : NoneBetween x.linked x.draft 0 row = subst (λ (k : Rows). NoneBetween k.linked k.draft 0 row) same free in f k (omega arith) (omega arith) e) r.distinct;
         };
         units = units_still fits z x y c.units (omega arith) (λ k h. keeps k (omega arith)) l.units;
-        claims = Claims-rows c d m.0 (with_head m.0.rows) g l.rows.behind refl (ap with_head same) t;
+        claims = Claims-rows c d m.0 (rows_with_head m.0.rows) g l.rows.behind refl (ap rows_with_head same) t;
         creates = refl;
         publishes = refl;
         by_creator = inr creates;
@@ -303,8 +303,8 @@ module _ (asked : List (List ℕ)) (fits : Subject → List ℕ → Type 0) (z :
       })
 
   pub counts_more : (n id : ℕ) (m : Me ℕ View) (new : ℕ) → m.0.creates ≡ true → length m.0.rows.linked ≡ m.0.rows.count + 1 → new ≡ m.0.rows.count + 1
-      → Allows (Rule asked fits z) n id m 0 (λ _. new) (λ _. stores_count (step n 0 new 0 none) m new)
-  counts_more n id m new creates ahead is = stores asked fits z n id m 0 new (with_count m.0) (stores_count (step n 0 new 0 none) m new) (λ s l t.
+      → Allows (Rule asked fits z) n id m 0 (λ _. new) (λ _. CountStore (step n 0 new 0 none) m new)
+  counts_more n id m new creates ahead is = stores asked fits z n id m 0 new (with_count m.0) (CountStore (step n 0 new 0 none) m new) (λ s l t.
       let c : Content = l.content in let x : Rows = c.rows in let same : m.0.rows ≡ x = t.creates creates in
       let e₁ = ap (λ (k : Rows). length k.linked) same in let e₂ = ap (λ (k : Rows). k.count) same in
       let y : Rows = record x { count = x.count + 1 } in
@@ -346,18 +346,18 @@ module _ (asked : List (List ℕ)) (fits : Subject → List ℕ → Type 0) (z :
       })
 
   pub drafts_at : (n id : ℕ) (m : Me ℕ View) (row at i new : ℕ) → i ≡ key_place row at → (m.0.creates ≡ true) × (m.0.rows.joined ≡ false) → (length m.0.rows.linked ≡ row) × (m.0.rows.count ≡ row) × (row < z.rows)
-      → (length m.0.rows.draft ≡ at) × (at < key_words) → Allows (Rule asked fits z) n id m i (λ _. new) (λ _. stores_key_word (step n i new 0 none) m new)
+      → (length m.0.rows.draft ≡ at) × (at < key_words) → Allows (Rule asked fits z) n id m i (λ _. new) (λ _. KeyWordStore (step n i new 0 none) m new)
   drafts_at n id m row at i new place creates full long = drafts n id m row at i new place creates.0 full.0 full.1 full.2 long.0 long.1 creates.1
 
   pub nexts_at : (n id : ℕ) (x m : Me ℕ View) (row i new b word : ℕ) → m ≡ x → i ≡ next_place row → (x.0.creates ≡ true) × (x.0.rows.joined ≡ false) → (length x.0.rows.linked ≡ row) × (row < z.rows)
       → (length x.0.rows.draft ≡ key_words) × (bucket_of x.0.rows.draft ≡ b) × (b < buckets) → IsOfRows x.0.rows word new → word ≡ head_place b
-      → Allows (Rule asked fits z) n id m i (λ _. new) (λ _. stores_next (step n i new 0 none) m new)
-  nexts_at n id x m row i new b word same place creates full draft is at = subst (λ (y : Me ℕ View). Allows (Rule asked fits z) n id y i (λ _. new) (λ _. stores_next (step n i new 0 none) y new)) (sym same)
+      → Allows (Rule asked fits z) n id m i (λ _. new) (λ _. NextStore (step n i new 0 none) m new)
+  nexts_at n id x m row i new b word same place creates full draft is at = subst (λ (y : Me ℕ View). Allows (Rule asked fits z) n id y i (λ _. new) (λ _. NextStore (step n i new 0 none) y new)) (sym same)
       (nexts n id x row i new place creates.0 full.0 full.1 draft.0 creates.1 (is.heads b draft.2 at ∙ (λ j. newest (bucket_at x.0.rows.linked) (sym draft.1 j) (full.0 j))))
 
   -- a pass that knows all rows
-  pub tells_rows : (id : ℕ) (v : View) → v.creates ≡ true → v.rows.count ≡ length v.rows.linked → Splits (Rule asked fits z) id v v (told_of_rows v)
-  tells_rows id v creates whole = splits asked fits z id v (told_of_rows v) refl refl (λ c x y t.
+  pub tells_rows : (id : ℕ) (v : View) → v.creates ≡ true → v.rows.count ≡ length v.rows.linked → Splits (Rule asked fits z) id v v (row_note v)
+  tells_rows id v creates whole = splits asked fits z id v (row_note v) refl refl (λ c x y t.
       let same : v.rows ≡ c.rows = t.creates creates in
       let e₁ = ap (λ (k : Rows). k.count) same in let low = t.seen in
       let right : All (IsRight c v.rows.count) (words_of_rows 0 v.rows.linked) = rows_right c v.rows.count 0 v.rows.linked (omega arith)

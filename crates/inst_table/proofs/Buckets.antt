@@ -1,11 +1,11 @@
 -- The exclusive or of all bytes, word by word.
-use Rattle.std.proofs.Common.{◌≡◌, ℕ, zero, suc, ◌+◌, ◌*◌, ◌/◌, ◌%◌, ◌^◌, replicate, length, List, [], ◌∷◌, ◌++◌, fold, flat_map, sym, refl, ap, ◌∙◌, subst, arith, pow-suc, pow-add}
+use Rattle.std.proofs.Common.{◌≡◌, ℕ, zero, suc, ◌+◌, ◌*◌, ◌/◌, ◌%◌, ◌^◌, List, [], ◌∷◌, fold, flat_map, sym, refl, ap, ◌∙◌, subst, arith, pow-suc, pow-add}
 use Rattle.std.specs.Int.{to_le_bytes, byte_at, bytes_low_first}
 use Rattle.std.specs.Int.RustNames.{bit_xor}
 use lib.Bits.{xor_zero_l, xor_zero_r, xor_assoc, xor_comm, xor_shr, xor_mod}
 use mir.Syntax.{w64}
 use Rattle.std.proofs.lemmas.List.Sums.{fold-append}
-use Rattle.inst_table.specs.Bucket.{key_words, bucket_of}
+use Rattle.inst_table.specs.Bucket.{bucket_of}
 
 abbrev sum_of : List ℕ → ℕ
 sum_of xs = fold bit_xor 0 xs
@@ -50,19 +50,3 @@ words a (w ∷ ws) = words (bit_xor a w) ws ∙ ap (λ (x : ℕ). bit_xor x (sum
 pub bucket_by_words : (key : List ℕ) → sum_of (to_le_bytes w64 (fold bit_xor 0 key)) ≡ bucket_of key
 unfolding bucket_of
 bucket_by_words key = words 0 key
-
--- two keys of 56 words, by hand: the bytes that aren't 0 are 15 or 14, then 2, and 17 twice
-sample_key : ℕ → List ℕ
-sample_key first = first ∷ 8589934592 ∷ (replicate 17 0 ++ 17 ∷ 0 ∷ 0 ∷ 17 ∷ replicate 33 0)
-
-length-sample : length (sample_key 3840) ≡ key_words
-unfolding sample_key
-length-sample = refl
-
-bucket-sample : bucket_of (sample_key 3840) ≡ 13
-unfolding bucket_of sample_key
-bucket-sample = refl
-
-bucket-sample_without_retain : bucket_of (sample_key 3584) ≡ 12
-unfolding bucket_of sample_key
-bucket-sample_without_retain = refl

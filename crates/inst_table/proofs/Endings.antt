@@ -8,10 +8,10 @@ use Rattle.inst_table.specs.Bucket.{key_words}
 use Rattle.inst_table.specs.Subject.{Subject}
 use Rattle.inst_table.specs.Layout.{key_place}
 use Rattle.inst_table.specs.Chain.{key_at, key_word}
-use Rattle.inst_table.specs.Views.{joined_with, told_of_rows, told_of_units, words_of_units}
+use Rattle.inst_table.specs.Views.{joint_view, row_note, unit_note, words_of_units}
 use Rattle.inst_table.specs.Units.{IsRecord, heap_of, address_of}
 use Rattle.inst_table.specs.Passes.{KnowsRow, KnowsAddress, KnowsAtLeast, KnowsRecord, FitsKnown}
-use Rattle.inst_table.specs.Heard.{Hears}
+use Rattle.inst_table.specs.AddressLoads.{LoadsAddress}
 use Rattle.inst_table.specs.Lawful.{AreDistinct}
 use Rattle.inst_table.specs.Plays.{IsOfRows, AreSound, AreSoundUnits}
 use Rattle.inst_table.specs.Closing.{KnowsRightKeys, AgreesWith, IsUnitOf, AreUnitsOf, IsReadUnit, BeginsWith}
@@ -19,10 +19,10 @@ use Rattle.inst_table.specs.declared.setup.Numbers.{Numbers}
 use Rattle.inst_table.specs.declared.closed.Closed.{Closed}
 use Rattle.inst_table.specs.declared.view.View.{View}
 use Rattle.inst_table.specs.declared.view.Unit.{Unit}
-use Rattle.inst_table.specs.declared.view.Known.TheVariants.{KeyWord, AddressWord, HeapWord}
+use Rattle.inst_table.specs.declared.view.KnownWord.TheVariants.{KeyWord, AddressWord, HeapWord}
 use Rattle.inst_table.proofs.Lists.{other, here, each-push}
 use Rattle.inst_table.proofs.Follows.{KnowsRow-keeps}
-use Rattle.inst_table.proofs.Tellings.{knows_both}
+use Rattle.inst_table.proofs.Sharing.{knows_both}
 use Rattle.std.proofs.lemmas.List.Elements.{Contains-append_left}
 use Rattle.inst_table.proofs.Adding.{note_of_old}
 use Rattle.inst_table.proofs.UnitSteps.{unit_contains}
@@ -42,17 +42,17 @@ key_whole rows row at key long wide whole each = ext_get_or 0 key (key_at rows r
 
 -- ---- what is known agrees
 
-pub keys_agree : (x y : Me ℕ View) (by v : View) → y ≡ (joined_with x.0 by, x.1) → KnowsAtLeast v by → KnowsRightKeys y.0 y.0.rows.linked → KnowsRightKeys v x.0.rows.linked
+pub keys_agree : (x y : Me ℕ View) (by v : View) → y ≡ (joint_view x.0 by, x.1) → KnowsAtLeast v by → KnowsRightKeys y.0 y.0.rows.linked → KnowsRightKeys v x.0.rows.linked
 keys_agree x y by v is t right row at word c =
     let r = right row at word ((knows_both x y by is).1.words (KeyWord row at word) (t.words (KeyWord row at word) c)) in
     let e = ap (λ (m : Me ℕ View). m.0.rows.linked) is in
     subst (λ (rows : List (List ℕ)). (row < length rows) × (word ≡ key_word rows row at)) e r
 
-pub agrees : (asked : List (List ℕ)) (fits : Subject → List ℕ → Type 0) (longest : Subject → ℕ) (z : Numbers) (rows : List (List ℕ)) (x y : Me ℕ View) (by : View) → y ≡ (joined_with x.0 by, x.1) → KnowsRightKeys by rows → AreSoundUnits asked fits longest z y.0 → AgreesWith by rows x.0.units.built
+pub agrees : (asked : List (List ℕ)) (fits : Subject → List ℕ → Type 0) (longest : Subject → ℕ) (z : Numbers) (rows : List (List ℕ)) (x y : Me ℕ View) (by : View) → y ≡ (joint_view x.0 by, x.1) → KnowsRightKeys by rows → AreSoundUnits asked fits longest z y.0 → AgreesWith by rows x.0.units.built
 agrees asked fits longest z rows x y by is keys s =
     let t = (knows_both x y by is).1 in let e = ap (λ (m : Me ℕ View). m.0.units.built) is in record {
       keys = keys;
-      addresses = λ unit word c. subst (λ (us : List Unit). address_of us unit ≡ word) e (s.known unit word (t.words (AddressWord unit word) c));
+      addresses = λ unit word c. subst (λ (us : List Unit). (word ≢ 0) × (address_of us unit ≡ word)) e (s.known unit word (t.words (AddressWord unit word) c));
       heap = λ at word c. subst (λ (us : List Unit). word ≡ get_or (heap_of us) at 0) e (s.heap_known at word (t.words (HeapWord at word) c));
     }
 
@@ -75,19 +75,19 @@ pub begins_trans : (a b c : List (ℕ × ℕ)) → BeginsWith b a → BeginsWith
 begins_trans a b c x y = (x.0 ++ y.0, y.1 ∙ ap (λ (m : List (ℕ × ℕ)). m ++ y.0) x.1 ∙ append_assoc a x.0 y.0)
 
 module _ (fits : Subject → List ℕ → Type 0) (z : Numbers) where
-  pub read_none : (z' : Numbers) (u v : View) (row : ℕ) → z ≡ z' → Hears u v (z'.libraries + row) 0 → IsReadUnit fits z u v row None
-  read_none z' u v row told h word k = h.same word (subst (λ (q : Numbers). KnowsAddress u (q.libraries + row) word) told k)
+  pub read_none : (z' : Numbers) (u v : View) (row : ℕ) → z ≡ z' → LoadsAddress u v (z'.libraries + row) 0 → IsReadUnit fits z u v row None
+  read_none z' u v row kept h word k = h.same word (subst (λ (q : Numbers). KnowsAddress u (q.libraries + row) word) kept k)
 
-  pub read_some : (z' : Numbers) (u v w : View) (unit row word : ℕ) (items : Vec ℕ Global) → z ≡ z' → unit ≡ z'.libraries + row → Hears u v (z'.libraries + row) word → word ≢ 0 → KnowsAddress v (z'.libraries + row) word
+  pub read_some : (z' : Numbers) (u v w : View) (unit row word : ℕ) (items : Vec ℕ Global) → z ≡ z' → unit ≡ z'.libraries + row → LoadsAddress u v (z'.libraries + row) word → word ≢ 0 → KnowsAddress v (z'.libraries + row) word
       → KnowsAtLeast u v → KnowsAtLeast v w → IsRecord items.items → KnowsRecord w word items.items → FitsKnown fits z w unit items.items → IsReadUnit fits z u w row (Some items)
-  read_some z' u v w unit row word items told is h there k a b whole knows f = (
+  read_some z' u v w unit row word items kept is h there k a b whole knows f = (
     word,
     there,
-    subst (λ (q : Numbers). KnowsAddress w (q.libraries + row) word) (sym told) (b.words (AddressWord (z'.libraries + row) word) k),
-    (λ x c. h.same x (subst (λ (q : Numbers). KnowsAddress u (q.libraries + row) x) told c)),
+    subst (λ (q : Numbers). KnowsAddress w (q.libraries + row) word) (sym kept) (b.words (AddressWord (z'.libraries + row) word) k),
+    (λ x c. h.same x (subst (λ (q : Numbers). KnowsAddress u (q.libraries + row) x) kept c)),
     whole,
     knows,
-    λ key long c. f.as_pair row key (is ∙ ap (λ (q : Numbers). q.libraries + row) (sym told)) long (KnowsRow-keeps u w row key (λ x d. b.words x (a.words x d)) c),
+    λ key long c. f.as_pair row key (is ∙ ap (λ (q : Numbers). q.libraries + row) (sym kept)) long (KnowsRow-keeps u w row key (λ x d. b.words x (a.words x d)) c),
   )
 
   pub read_later : (u v w : View) (row : ℕ) (o : Option (Vec ℕ Global)) → KnowsAtLeast v w → IsReadUnit fits z u v row o → IsReadUnit fits z u w row o
@@ -110,7 +110,7 @@ module _ (fits : Subject → List ℕ → Type 0) (z : Numbers) where
   unit_of u v rows us row None all knows long a r = dite (ℕ_discrete (address_of us (z.libraries + row)) 0) (λ e. e)
       (λ ne. absurd (ne (sym (r (address_of us (z.libraries + row)) (all (z.libraries + row) (address_of us (z.libraries + row)) refl ne)))))
   unit_of u v rows us row (Some items) all knows long a r =
-      let e : address_of us (z.libraries + row) ≡ r.0 = a.addresses (z.libraries + row) r.0 r.2 in
+      let e : address_of us (z.libraries + row) ≡ r.0 = (a.addresses (z.libraries + row) r.0 r.2).1 in
       ((λ y. r.1 (sym e ∙ y)), r.4, (λ at h. a.heap (r.0 - 1 + at) (get_or items.items at 0) (r.5 at h) ∙ ap (λ (w : ℕ). get_or (heap_of us) (w - 1 + at) 0) (sym e)), r.6 (key_at rows row) long knows)
 
   pub units_are : (u v : View) (rows : List (List ℕ)) (us : List Unit) (units : List (Option (Vec ℕ Global))) (count : ℕ) → ((unit word : ℕ) → address_of us unit ≡ word → word ≢ 0 → KnowsAddress u unit word)
@@ -124,13 +124,13 @@ module _ (fits : Subject → List ℕ → Type 0) (z : Numbers) where
 
 -- ---- what the pass knows that has taken in the notes of both
 
-pub rows_known : (asked : List (List ℕ)) (room : ℕ) (x y : Me ℕ View) (note v w : View) (count : ℕ) → AreSound asked room x.0.rows.linked → y ≡ x → note ≡ told_of_rows y.0 → length x.0.rows.linked ≡ count
+pub rows_known : (asked : List (List ℕ)) (room : ℕ) (x y : Me ℕ View) (note v w : View) (count : ℕ) → AreSound asked room x.0.rows.linked → y ≡ x → note ≡ row_note y.0 → length x.0.rows.linked ≡ count
     → KnowsAtLeast note v → KnowsAtLeast v w → (row : ℕ) → row < count → KnowsRow w row (key_at x.0.rows.linked row)
 rows_known asked room x y note v w count s same is long a b row h =
     let key : List ℕ = key_at x.0.rows.linked row in
     KnowsRow-keeps note w row key (λ k c. b.words k (a.words k c)) (note_of_old x y note row count key same is long h refl (s.wide row [] (omega arith)))
 
-pub units_known : (s note w : View) → note ≡ told_of_units s → KnowsAtLeast note w → (unit word : ℕ) → address_of s.units.built unit ≡ word → word ≢ 0 → KnowsAddress w unit word
+pub units_known : (s note w : View) → note ≡ unit_note s → KnowsAtLeast note w → (unit word : ℕ) → address_of s.units.built unit ≡ word → word ≢ 0 → KnowsAddress w unit word
 units_known s note w is t unit word e there = t.words (AddressWord unit word)
     (subst (λ (v : View). KnowsAddress v unit word) (sym is) (Contains-append_left (words_of_units 0 s.units.built) s.known (AddressWord unit word) (unit_contains 0 s.units.built unit word e there)))
 

@@ -7,8 +7,8 @@ use Rattle.inst_table.specs.Units.{heap_of, address_of}
 use Rattle.inst_table.specs.Lawful.{Content, Claims, IsRight, NoneBetween, StandsIn, IsOnTheWay}
 use Rattle.inst_table.specs.declared.view.View.{View}
 use Rattle.inst_table.specs.declared.view.Walk.{Walk}
-use Rattle.inst_table.specs.declared.view.Known.{Known}
-use Rattle.inst_table.specs.declared.view.Known.TheVariants.{KeyWord, AddressWord, HeapWord}
+use Rattle.inst_table.specs.declared.view.KnownWord.{KnownWord}
+use Rattle.inst_table.specs.declared.view.KnownWord.TheVariants.{KeyWord, AddressWord, HeapWord}
 
 pub record Grows (c d : Content) : Type 0 where
   pub count : c.rows.count ≤ d.rows.count
@@ -17,7 +17,7 @@ pub record Grows (c d : Content) : Type 0 where
   pub addresses : (unit : ℕ) → address_of c.units.built unit ≢ 0 → address_of d.units.built unit ≡ address_of c.units.built unit
   pub heap : (at : ℕ) → at < length (heap_of c.units.built) → (at < length (heap_of d.units.built)) × (get_or (heap_of d.units.built) at 0 ≡ get_or (heap_of c.units.built) at 0)
 
-IsRight-grow : (c d : Content) → Grows c d → c.rows.count ≤ length c.rows.linked → (seen : ℕ) → seen ≤ c.rows.count → (word : Known) → IsRight c seen word → IsRight d seen word
+IsRight-grow : (c d : Content) → Grows c d → c.rows.count ≤ length c.rows.linked → (seen : ℕ) → seen ≤ c.rows.count → (word : KnownWord) → IsRight c seen word → IsRight d seen word
 IsRight-grow c d g behind seen low (KeyWord row at word) r = (r.0, r.1, r.2 ∙ ap (λ (key : List ℕ). get_or key at 0) (sym (g.rows row (omega (arith, r.0)))))
 IsRight-grow c d g behind seen low (AddressWord unit word) r = let there : address_of c.units.built unit ≢ 0 = λ z. r.0 (sym r.1 ∙ z) in (r.0, g.addresses unit there ∙ r.1)
 IsRight-grow c d g behind seen low (HeapWord at word) r = let h = g.heap at r.0 in (h.0, r.1 ∙ sym h.1)
@@ -45,7 +45,7 @@ Claims-grow c d g behind v t creates publishes = record {
       (λ a h. (h.0, let near = h.0 in NoneBetween-grow c d g a.0 0 a.1 (omega arith) h.1)) v.absent t.absent;
   walk = IsOnTheWay-grow c d g behind v.seen t.seen v.walk t.walk;
   walked = All-weaker (λ (p : ℕ × ℕ). StandsIn c.rows.linked p.1 p.0) (λ (p : ℕ × ℕ). StandsIn d.rows.linked p.1 p.0) (λ p h. StandsIn-grow c d g p.1 p.0 h) v.walked t.walked;
-  heard = All-weaker (λ (m : ℕ × ℕ). m.1 ≢ 0 → address_of c.units.built m.0 ≡ m.1) (λ (m : ℕ × ℕ). m.1 ≢ 0 → address_of d.units.built m.0 ≡ m.1) (λ m h there. let was = h there in g.addresses m.0 (λ z. there (sym was ∙ z)) ∙ was) v.mine t.heard;
+  loads = All-weaker (λ (m : ℕ × ℕ). m.1 ≢ 0 → address_of c.units.built m.0 ≡ m.1) (λ (m : ℕ × ℕ). m.1 ≢ 0 → address_of d.units.built m.0 ≡ m.1) (λ m h there. let was = h there in g.addresses m.0 (λ z. there (sym was ∙ z)) ∙ was) v.address_loads t.loads;
   one_way = t.one_way;
   creates = creates;
   publishes = publishes;

@@ -6,7 +6,8 @@ pub mod Steps
 pub mod LookSteps
 pub mod Follows
 pub mod Buckets
-pub mod Tellings
+pub mod PointKey
+pub mod Sharing
 pub mod Starts
 pub mod Appends
 pub mod Within

@@ -13,7 +13,7 @@ use Rattle.inst_table.specs.Lawful.{Content, Claims, IsBuilt, Lawful}
 use Rattle.inst_table.specs.declared.setup.Numbers.{Numbers}
 use Rattle.inst_table.specs.declared.view.View.{View}
 use Rattle.inst_table.proofs.Seats.{IsAlone}
-use Rattle.inst_table.proofs.Tellings.{Claims-blank}
+use Rattle.inst_table.proofs.Sharing.{Claims-blank}
 
 zeros : (n i : ℕ) → get_or {A = ℕ} (replicate n 0) i 0 ≡ 0
 zeros zero i = refl
@@ -32,7 +32,7 @@ Claims-beginning c rows units = let b : Claims c blank = Claims-blank c in recor
   absent = b.absent;
   walk = b.walk;
   walked = b.walked;
-  heard = b.heard;
+  loads = b.loads;
   one_way = b.one_way;
   creates = λ y. sym rows;
   publishes = λ y. sym units;

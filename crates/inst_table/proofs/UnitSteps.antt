@@ -9,9 +9,9 @@ use Rattle.atomic_table.specs.Table.{Me, step, Allows, Splits}
 use Rattle.inst_table.specs.Subject.{Subject, pair}
 use Rattle.inst_table.specs.Layout.{count_place, head_place, key_place, next_place, row_place, address_place, heap_place, width}
 use Rattle.inst_table.specs.Chain.{key_at}
-use Rattle.inst_table.specs.Views.{heard, addressed, learnt, with_units, laid, with_address, told_of_units, words_of_units, no_units}
+use Rattle.inst_table.specs.Views.{with_address_load, known_with_address, with_known, with_units, units_with_word, units_with_address, unit_note, words_of_units, no_units}
 use Rattle.inst_table.specs.Passes.{KnowsRow, KnowsAddress, IsKnownUnit, MayPublish, FitsKnown, KnowsRecord, IsInRecord}
-use Rattle.inst_table.specs.Plays.{IsOfUnits, AreSoundUnits, reads_address, reads_heap, checks_units, stores_heap_word, stores_address, asked_by, fits_by, longest_by}
+use Rattle.inst_table.specs.Plays.{IsOfUnits, AreSoundUnits, AddressLoad, HeapLoad, UnitReload, HeapStore, AddressStore, asked_by, fits_by, longest_by}
 use Rattle.inst_table.specs.Units.{IsRecord, heap_of, address_from, address_of}
 use Rattle.inst_table.specs.Lawful.{Content, Claims, IsRight, IsOneWay, AreDistinct, StandsForRows, RowsAreSound, IsUnit, FitsUnit, IsBuilt, numbers_of}
 use Rattle.inst_table.specs.declared.setup.Numbers.{Numbers}
@@ -19,20 +19,20 @@ use Rattle.inst_table.specs.declared.view.View.{View}
 use Rattle.inst_table.specs.declared.view.Rows.{Rows}
 use Rattle.inst_table.specs.declared.view.Unit.{Unit}
 use Rattle.inst_table.specs.declared.view.Units.{Units}
-use Rattle.inst_table.specs.declared.view.Known.{Known}
-use Rattle.inst_table.specs.declared.view.Known.TheVariants.{KeyWord, AddressWord, HeapWord}
+use Rattle.inst_table.specs.declared.view.KnownWord.{KnownWord}
+use Rattle.inst_table.specs.declared.view.KnownWord.TheVariants.{KeyWord, AddressWord, HeapWord}
 use Rattle.inst_table.proofs.Lists.{other, here, at_left, at_push, length-push, each-push, AreDistinct-push}
 use Rattle.inst_table.proofs.Follows.{contains-here, contains-there}
 use Rattle.inst_table.proofs.Addresses.{heap_of-push, numbers_of-push, address-other, address-new, address-keeps, address-none, address-first, address-later, address-absent, RecordAt, record_at}
 use Rattle.inst_table.proofs.Weights.{leaves_room}
 use Rattle.inst_table.proofs.Growth.{Grows, Claims-grow}
 use Rattle.inst_table.proofs.LookSteps.{Claims-learn, known_row}
-use Rattle.inst_table.proofs.Tellings.{Claims-fresh}
+use Rattle.inst_table.proofs.Sharing.{Claims-fresh}
 use Rattle.inst_table.proofs.Steps.{Rule, loads, stores, splits}
 
 -- ---- the load of an address word
 
-addressed_right : (c : Content) (seen unit word : ℕ) (known : List Known) → address_of c.units.built unit ≡ word → All (IsRight c seen) known → All (IsRight c seen) (addressed unit word known)
+addressed_right : (c : Content) (seen unit word : ℕ) (known : List KnownWord) → address_of c.units.built unit ≡ word → All (IsRight c seen) known → All (IsRight c seen) (known_with_address unit word known)
 addressed_right c seen unit zero known e t = t
 addressed_right c seen unit (suc place) known e t = All-cons (IsRight c seen) (AddressWord unit (suc place)) known ((λ z. cc), e) t
 
@@ -50,15 +50,15 @@ one_way_push c mine unit word is right one i j low high same there =
     (λ ne. let under : j < length mine = omega arith in let e : get_or (mine ++ (unit, word) ∷ []) j (0, 0) ≡ get_or mine j (0, 0) = at_left mine ((unit, word) ∷ []) j (0, 0) under in
     ap (λ (m : ℕ × ℕ). m.1) e ∙ one i j low under (ap (λ (m : ℕ × ℕ). m.0) (sym first) ∙ same ∙ ap (λ (m : ℕ × ℕ). m.0) e) set' ∙ ap (λ (m : ℕ × ℕ). m.1) (sym first))
 
-Claims-heard : (c : Content) (v : View) (unit word : ℕ) → address_of c.units.built unit ≡ word → Claims c v → Claims c (heard unit word v)
-Claims-heard c v unit word is t = record {
+Claims-load : (c : Content) (v : View) (unit word : ℕ) → address_of c.units.built unit ≡ word → Claims c v → Claims c (with_address_load unit word v)
+Claims-load c v unit word is t = record {
   seen = t.seen;
   known = addressed_right c v.seen unit word v.known is t.known;
   absent = t.absent;
   walk = t.walk;
   walked = t.walked;
-  heard = All-push (λ (m : ℕ × ℕ). m.1 ≢ 0 → address_of c.units.built m.0 ≡ m.1) v.mine (unit, word) t.heard (λ there. is);
-  one_way = one_way_push c v.mine unit word is t.heard t.one_way;
+  loads = All-push (λ (m : ℕ × ℕ). m.1 ≢ 0 → address_of c.units.built m.0 ≡ m.1) v.address_loads (unit, word) t.loads (λ there. is);
+  one_way = one_way_push c v.address_loads unit word is t.loads t.one_way;
   creates = t.creates;
   publishes = t.publishes;
 }
@@ -70,14 +70,14 @@ low_row c v row key t knows = (let r : IsRight c v.seen (KeyWord row 0 (get_or k
 
 Claims-units : (c d : Content) (v : View) (units : Units) → Grows c d → c.rows.count ≤ length c.rows.linked → c.rows ≡ d.rows → units ≡ d.units → Claims c v → Claims d (with_units units v)
 Claims-units c d v units g behind rows is t =
-    let free : Claims c (record v { publishes = false; units = no_units }) = record { seen = t.seen; known = t.known; absent = t.absent; walk = t.walk; walked = t.walked; heard = t.heard; one_way = t.one_way; creates = t.creates; publishes = λ y. cc } in
+    let free : Claims c (record v { publishes = false; units = no_units }) = record { seen = t.seen; known = t.known; absent = t.absent; walk = t.walk; walked = t.walked; loads = t.loads; one_way = t.one_way; creates = t.creates; publishes = λ y. cc } in
     let b : Claims d (record v { publishes = false; units = no_units }) = Claims-grow c d g behind (record v { publishes = false; units = no_units }) free (λ y. t.creates y ∙ rows) (λ y. cc) in record {
       seen = b.seen;
       known = b.known;
       absent = b.absent;
       walk = b.walk;
       walked = b.walked;
-      heard = b.heard;
+      loads = b.loads;
       one_way = b.one_way;
       creates = b.creates;
       publishes = λ y. is;
@@ -112,7 +112,7 @@ pub unit_contains : (place : ℕ) (us : List Unit) (n word : ℕ) → address_fr
 unit_contains place [] n word e there = absurd (there (sym e))
 unit_contains place (u ∷ us) n word e there = dite (ℕ_discrete u.number n)
     (λ this. let f : suc place ≡ word = sym (address-first place u us n this) ∙ e in
-    subst (λ (x : Known). Contains (words_of_units place (u ∷ us)) x) (λ i. AddressWord (this i) (f i)) (contains-here (words_of_units (place + length u.words) us) (AddressWord u.number (suc place))))
+    subst (λ (x : KnownWord). Contains (words_of_units place (u ∷ us)) x) (λ i. AddressWord (this i) (f i)) (contains-here (words_of_units (place + length u.words) us) (AddressWord u.number (suc place))))
     (λ ne. contains-there (words_of_units (place + length u.words) us) (AddressWord u.number (suc place)) (AddressWord n word) (unit_contains (place + length u.words) us n word (sym (address-later place u us n ne) ∙ e) there))
 
 module _ (asked : List (List ℕ)) (fits : Subject → List ℕ → Type 0) (z : Numbers) where
@@ -134,16 +134,16 @@ module _ (asked : List (List ℕ)) (fits : Subject → List ℕ → Type 0) (z :
       )) may
 
   pub hears : (n id : ℕ) (m : Me ℕ View) (unit i : ℕ) → (unit < z.libraries + z.rows → i ≡ address_place z unit) → IsKnownUnit z m.0 unit
-      → Allows (Rule asked fits z) n id m i (λ r. r) (reads_address unit (step n i 0 0 none) m)
-  hears n id m unit i place known = loads asked fits z n id m i (λ r. heard unit r m.0) (reads_address unit (step n i 0 0 none) m) (λ s l t.
+      → Allows (Rule asked fits z) n id m i (λ r. r) (AddressLoad unit (step n i 0 0 none) m)
+  hears n id m unit i place known = loads asked fits z n id m i (λ r. with_address_load unit r m.0) (AddressLoad unit (step n i 0 0 none) m) (λ s l t.
       let c : Content = l.content in let r : ℕ = get_or s.words i 0 in
       let inside : unit < z.libraries + z.rows = known_unit c m.0 unit t l.rows known in
       let is : address_of c.units.built unit ≡ r = sym (ap (λ (k : ℕ). get_or s.words k 0) (place inside) ∙ l.stands_for_units.addresses unit inside) in
-      let after : Claims c (heard unit r m.0) = Claims-heard c m.0 unit r is t in record {
+      let after : Claims c (with_address_load unit r m.0) = Claims-load c m.0 unit r is t in record {
         claims = after;
         creates = refl;
         publishes = refl;
-        tells = (refl, (λ word k. let right : IsRight c m.0.seen (AddressWord unit word) = All-contains (IsRight c m.0.seen) m.0.known (AddressWord unit word) t.known k in sym is ∙ right.1), after.one_way);
+        tells = (refl, (λ word k. let right : IsRight c m.0.seen (AddressWord unit word) = All-contains (IsRight c m.0.seen) m.0.known (AddressWord unit word) t.known k in (sym is ∙ right.1, right.0)), after.one_way);
       })
 
   -- the record at an address that is known
@@ -179,8 +179,8 @@ module _ (asked : List (List ℕ)) (fits : Subject → List ℕ → Type 0) (z :
   }
 
   pub reads_record : (n id : ℕ) (m : Me ℕ View) (unit word at i : ℕ) → (1 ≤ word → word - 1 + at < z.heap → i ≡ heap_place z (word - 1 + at)) → KnowsAddress m.0 unit word → IsInRecord m.0 word at
-      → Allows (Rule asked fits z) n id m i (λ r. r) (reads_heap fits z unit word at (step n i 0 0 none) m)
-  reads_record n id m unit word at i place known inside = loads asked fits z n id m i (λ r. learnt (HeapWord (word - 1 + at) r) m.0) (reads_heap fits z unit word at (step n i 0 0 none) m) (λ s l t.
+      → Allows (Rule asked fits z) n id m i (λ r. r) (HeapLoad fits z unit word at (step n i 0 0 none) m)
+  reads_record n id m unit word at i place known inside = loads asked fits z n id m i (λ r. with_known (HeapWord (word - 1 + at) r) m.0) (HeapLoad fits z unit word at (step n i 0 0 none) m) (λ s l t.
       let c : Content = l.content in let r : ℕ = get_or s.words i 0 in
       let k = known_record c m.0 unit word t known in let there = k.0 in let rec : RecordAt c.units.built unit (word - 1) = k.1 in
       let u : IsBuilt fits z c.rows rec.unit = All-contains (IsBuilt fits z c.rows) c.units.built rec.unit l.units.built rec.is_built in
@@ -190,7 +190,7 @@ module _ (asked : List (List ℕ)) (fits : Subject → List ℕ → Type 0) (z :
       let is : r ≡ get_or (heap_of c.units.built) q 0 = ap (λ (k : ℕ). get_or s.words k 0) (place (omega arith) (omega arith)) ∙ l.stands_for_units.heap q (omega arith) ∙ at_left (heap_of c.units.built) c.units.partly q 0 (omega arith) in
       let small : get_or rec.unit.words at 0 < 2 ^ 32 = All-get_or (λ w. w < 2 ^ 32) rec.unit.words at 0 low u.small in
       let value : r ≡ get_or rec.unit.words at 0 = is ∙ rec.words at low in
-      let after : Claims c (learnt (HeapWord q r) m.0) = Claims-learn c m.0 (HeapWord q r) (omega arith, is) t in record {
+      let after : Claims c (with_known (HeapWord q r) m.0) = Claims-learn c m.0 (HeapWord q r) (omega arith, is) t in record {
         claims = after;
         creates = refl;
         publishes = refl;
@@ -198,9 +198,9 @@ module _ (asked : List (List ℕ)) (fits : Subject → List ℕ → Type 0) (z :
           refl,
           omega arith,
           λ words knows whole.
-              let same : words ≡ rec.unit.words = whole_record c (learnt (HeapWord q r) m.0) unit word words after rec u.whole knows whole in
-              subst (λ (ws : List ℕ). FitsKnown fits z (learnt (HeapWord q r) m.0) unit ws) (sym same)
-              (fits_known c (learnt (HeapWord q r) m.0) unit rec.unit.words after l.rows (subst (λ (k : ℕ). FitsUnit fits z c.rows k rec.unit.words) rec.number u.fitting)),
+              let same : words ≡ rec.unit.words = whole_record c (with_known (HeapWord q r) m.0) unit word words after rec u.whole knows whole in
+              subst (λ (ws : List ℕ). FitsKnown fits z (with_known (HeapWord q r) m.0) unit ws) (sym same)
+              (fits_known c (with_known (HeapWord q r) m.0) unit rec.unit.words after l.rows (subst (λ (k : ℕ). FitsUnit fits z c.rows k rec.unit.words) rec.number u.fitting)),
         );
       })
 
@@ -209,8 +209,8 @@ module _ (asked : List (List ℕ)) (fits : Subject → List ℕ → Type 0) (z :
   small_heap x (u ∷ us) all = All-append (λ w. w < 2 ^ 32) u.words (heap_of us) (All-head (IsBuilt fits z x) u us all).small (small_heap x us (All-tail (IsBuilt fits z x) u us all))
 
   pub checks_all : (longest : Subject → ℕ) → ((s : Subject) (words : List ℕ) → fits s words → length words ≤ longest s) → (n id : ℕ) (m : Me ℕ View) (i : ℕ) → m.0.publishes ≡ true
-      → Allows (Rule asked fits z) n id m i (λ r. r) (checks_units asked fits longest z (step n i 0 0 none) m)
-  checks_all longest short n id m i publishes = loads asked fits z n id m i (λ r. m.0) (checks_units asked fits longest z (step n i 0 0 none) m) (λ s l t.
+      → Allows (Rule asked fits z) n id m i (λ r. r) (UnitReload asked fits longest z (step n i 0 0 none) m)
+  checks_all longest short n id m i publishes = loads asked fits z n id m i (λ r. m.0) (UnitReload asked fits longest z (step n i 0 0 none) m) (λ s l t.
       let c : Content = l.content in let r : ℕ = get_or s.words i 0 in
       let same : c.units ≡ m.0.units = sym (t.publishes publishes) in
       let long = length-append (heap_of c.units.built) c.units.partly in
@@ -234,17 +234,17 @@ module _ (asked : List (List ℕ)) (fits : Subject → List ℕ → Type 0) (z :
             heap_known = λ at word k. let right : IsRight c m.0.seen (HeapWord at word) = All-contains (IsRight c m.0.seen) m.0.known (HeapWord at word) t.known k in
                 right.1 ∙ ap (λ (y : Units). get_or (heap_of y.built) at 0) same;
             known = λ unit word k. let right : IsRight c m.0.seen (AddressWord unit word) = All-contains (IsRight c m.0.seen) m.0.known (AddressWord unit word) t.known k in
-                ap (λ (y : Units). address_of y.built unit) (sym same) ∙ right.1;
+                (right.0, ap (λ (y : Units). address_of y.built unit) (sym same) ∙ right.1);
           },
         );
       })
 
   pub lays : (n id : ℕ) (m : Me ℕ View) (i new : ℕ) → i ≡ heap_place z (length (heap_of m.0.units.built) + length m.0.units.partly) → m.0.publishes ≡ true
-      → length (heap_of m.0.units.built) + length m.0.units.partly < z.heap → new < 2 ^ 32 → Allows (Rule asked fits z) n id m i (λ _. new) (λ _. stores_heap_word (step n i new 0 none) m new)
-  lays n id m i new place publishes room small = stores asked fits z n id m i new (with_units (laid new m.0.units) m.0) (stores_heap_word (step n i new 0 none) m new) (λ s l t.
+      → length (heap_of m.0.units.built) + length m.0.units.partly < z.heap → new < 2 ^ 32 → Allows (Rule asked fits z) n id m i (λ _. new) (λ _. HeapStore (step n i new 0 none) m new)
+  lays n id m i new place publishes room small = stores asked fits z n id m i new (with_units (units_with_word new m.0.units) m.0) (HeapStore (step n i new 0 none) m new) (λ s l t.
       let c : Content = l.content in let y : Units = c.units in let same : m.0.units ≡ y = t.publishes publishes in
       let e₁ = ap (λ (k : Units). length (heap_of k.built)) same in let e₂ = ap (λ (k : Units). length k.partly) same in
-      let y' : Units = laid new y in
+      let y' : Units = units_with_word new y in
       let d : Content = record { rows = c.rows; units = y' } in
       let old : List ℕ = heap_of y.built ++ y.partly in
       let long = length-append (heap_of y.built) y.partly in
@@ -266,7 +266,7 @@ module _ (asked : List (List ℕ)) (fits : Subject → List ℕ → Type 0) (z :
         };
         rows = l.rows;
         units = let u = l.units in record { built = u.built; once = u.once; room = omega arith; small = All-push (λ w. w < 2 ^ 32) y.partly new u.small small };
-        claims = Claims-units c d m.0 (laid new m.0.units) g l.rows.behind refl (ap (laid new) same) t;
+        claims = Claims-units c d m.0 (units_with_word new m.0.units) g l.rows.behind refl (ap (units_with_word new) same) t;
         creates = refl;
         publishes = refl;
         by_creator = inl refl;
@@ -275,12 +275,12 @@ module _ (asked : List (List ℕ)) (fits : Subject → List ℕ → Type 0) (z :
       })
 
   pub publishes_record : (n id : ℕ) (m : Me ℕ View) (unit i new : ℕ) → (unit < z.libraries + z.rows → i ≡ address_place z unit) → i < width z → m.0.publishes ≡ true → MayPublish fits z m.0 unit m.0.units.partly → IsRecord m.0.units.partly
-      → address_of m.0.units.built unit ≡ 0 → new ≡ 1 + length (heap_of m.0.units.built) → Allows (Rule asked fits z) n id m i (λ _. new) (λ _. stores_address unit (step n i new 0 none) m new)
-  publishes_record n id m unit i new place within publishes may whole none' is = stores asked fits z n id m i new (with_units (with_address unit m.0.units) m.0) (stores_address unit (step n i new 0 none) m new) (λ s l t.
+      → address_of m.0.units.built unit ≡ 0 → new ≡ 1 + length (heap_of m.0.units.built) → Allows (Rule asked fits z) n id m i (λ _. new) (λ _. AddressStore unit (step n i new 0 none) m new)
+  publishes_record n id m unit i new place within publishes may whole none' is = stores asked fits z n id m i new (with_units (units_with_address unit m.0.units) m.0) (AddressStore unit (step n i new 0 none) m new) (λ s l t.
       let c : Content = l.content in let y : Units = c.units in let same : m.0.units ≡ y = t.publishes publishes in
       let e₁ = ap (λ (k : Units). length (heap_of k.built)) same in
       let gap : address_of y.built unit ≡ 0 = ap (λ (k : Units). address_of k.built unit) (sym same) ∙ none' in
-      let y' : Units = with_address unit y in
+      let y' : Units = units_with_address unit y in
       let u : Unit = record { number = unit; words = y.partly } in
       let d : Content = record { rows = c.rows; units = y' } in
       let b = may_be_built c m.0 unit m.0.units.partly t l.rows may in
@@ -314,7 +314,7 @@ module _ (asked : List (List ℕ)) (fits : Subject → List ℕ → Type 0) (z :
           room = let e = ap length all_is in let r = us.room in omega arith;
           small = All-nil (λ w. w < 2 ^ 32);
         };
-        claims = Claims-units c d m.0 (with_address unit m.0.units) g l.rows.behind refl (ap (with_address unit) same) t;
+        claims = Claims-units c d m.0 (units_with_address unit m.0.units) g l.rows.behind refl (ap (units_with_address unit) same) t;
         creates = refl;
         publishes = refl;
         by_creator = inl refl;
@@ -322,36 +322,36 @@ module _ (asked : List (List ℕ)) (fits : Subject → List ℕ → Type 0) (z :
         tells = refl;
       })
 
-  pub tells_units : (id : ℕ) (v : View) → v.publishes ≡ true → Splits (Rule asked fits z) id v v (told_of_units v)
-  tells_units id v publishes = splits asked fits z id v (told_of_units v) refl refl (λ c x y t.
+  pub tells_units : (id : ℕ) (v : View) → v.publishes ≡ true → Splits (Rule asked fits z) id v v (unit_note v)
+  tells_units id v publishes = splits asked fits z id v (unit_note v) refl refl (λ c x y t.
       let same : v.units ≡ c.units = t.publishes publishes in
       let right : All (IsRight c v.seen) (words_of_units 0 v.units.built) = units_right c v.seen 0 v.units.built (λ n word e there. ap (λ (k : Units). address_of k.built n) (sym same) ∙ e)
       (subst (λ (k : Units). AreDistinct (numbers_of k.built) 0) (sym same) y.once) in
       Claims-fresh c v v.seen (words_of_units 0 v.units.built ++ v.known) t.seen (omega arith) (All-append (IsRight c v.seen) (words_of_units 0 v.units.built) v.known right t.known) t)
 
 pub hears_at : (asked : List (List ℕ)) (fits : Subject → List ℕ → Type 0) (z z' : Numbers) (n id : ℕ) (m : Me ℕ View) (named unit i : ℕ) → z ≡ z' → (unit < z'.libraries + z'.rows → i ≡ address_place z' unit)
-    → named ≡ unit → IsKnownUnit z m.0 unit → Allows (Rule asked fits z) n id m i (λ r. r) (reads_address named (step n i 0 0 none) m)
-hears_at asked fits z z' n id m named unit i told place same known = subst (λ (k : ℕ). Allows (Rule asked fits z) n id m i (λ r. r) (reads_address k (step n i 0 0 none) m)) (sym same)
-    (hears asked fits z n id m unit i (subst (λ (q : Numbers). unit < q.libraries + q.rows → i ≡ address_place q unit) (sym told) place) known)
+    → named ≡ unit → IsKnownUnit z m.0 unit → Allows (Rule asked fits z) n id m i (λ r. r) (AddressLoad named (step n i 0 0 none) m)
+hears_at asked fits z z' n id m named unit i kept place same known = subst (λ (k : ℕ). Allows (Rule asked fits z) n id m i (λ r. r) (AddressLoad k (step n i 0 0 none) m)) (sym same)
+    (hears asked fits z n id m unit i (subst (λ (q : Numbers). unit < q.libraries + q.rows → i ≡ address_place q unit) (sym kept) place) known)
 
 module _ {F : Type 0} (askedF : F → List (List ℕ)) (fitsF : F → Subject → List ℕ → Type 0) (longestF : F → Subject → ℕ) (fit : F) where
   pub reads_record_at : (z z' w : Numbers) (n id : ℕ) (m : Me ℕ View) (o : Option F) (named unit named_word word named_at at i : ℕ) → z ≡ z' → (1 ≤ word → word - 1 + at < z'.heap → i ≡ heap_place z' (word - 1 + at))
       → o ≡ Some fit → w ≡ z → named ≡ unit → named_word ≡ word → named_at ≡ at → KnowsAddress m.0 unit word → IsInRecord m.0 word at
-      → Allows (Rule (askedF fit) (fitsF fit) z) n id m i (λ r. r) (reads_heap (fits_by fitsF o) w named named_word named_at (step n i 0 0 none) m)
-  reads_record_at z z' w n id m o named unit named_word word named_at at i told place is same_numbers same same_word same_at known inside =
-      subst (λ (o' : Option F). Allows (Rule (askedF fit) (fitsF fit) z) n id m i (λ r. r) (reads_heap (fits_by fitsF o') w named named_word named_at (step n i 0 0 none) m)) (sym is)
-      (subst (λ (w' : Numbers). Allows (Rule (askedF fit) (fitsF fit) z) n id m i (λ r. r) (reads_heap (fitsF fit) w' named named_word named_at (step n i 0 0 none) m)) (sym same_numbers)
-      (subst (λ (k : ℕ). Allows (Rule (askedF fit) (fitsF fit) z) n id m i (λ r. r) (reads_heap (fitsF fit) z k named_word named_at (step n i 0 0 none) m)) (sym same)
-      (subst (λ (k : ℕ). Allows (Rule (askedF fit) (fitsF fit) z) n id m i (λ r. r) (reads_heap (fitsF fit) z unit k named_at (step n i 0 0 none) m)) (sym same_word)
-      (subst (λ (k : ℕ). Allows (Rule (askedF fit) (fitsF fit) z) n id m i (λ r. r) (reads_heap (fitsF fit) z unit word k (step n i 0 0 none) m)) (sym same_at)
-      (reads_record (askedF fit) (fitsF fit) z n id m unit word at i (subst (λ (q : Numbers). 1 ≤ word → word - 1 + at < q.heap → i ≡ heap_place q (word - 1 + at)) (sym told) place) known inside)))))
+      → Allows (Rule (askedF fit) (fitsF fit) z) n id m i (λ r. r) (HeapLoad (fits_by fitsF o) w named named_word named_at (step n i 0 0 none) m)
+  reads_record_at z z' w n id m o named unit named_word word named_at at i kept place is same_numbers same same_word same_at known inside =
+      subst (λ (o' : Option F). Allows (Rule (askedF fit) (fitsF fit) z) n id m i (λ r. r) (HeapLoad (fits_by fitsF o') w named named_word named_at (step n i 0 0 none) m)) (sym is)
+      (subst (λ (w' : Numbers). Allows (Rule (askedF fit) (fitsF fit) z) n id m i (λ r. r) (HeapLoad (fitsF fit) w' named named_word named_at (step n i 0 0 none) m)) (sym same_numbers)
+      (subst (λ (k : ℕ). Allows (Rule (askedF fit) (fitsF fit) z) n id m i (λ r. r) (HeapLoad (fitsF fit) z k named_word named_at (step n i 0 0 none) m)) (sym same)
+      (subst (λ (k : ℕ). Allows (Rule (askedF fit) (fitsF fit) z) n id m i (λ r. r) (HeapLoad (fitsF fit) z unit k named_at (step n i 0 0 none) m)) (sym same_word)
+      (subst (λ (k : ℕ). Allows (Rule (askedF fit) (fitsF fit) z) n id m i (λ r. r) (HeapLoad (fitsF fit) z unit word k (step n i 0 0 none) m)) (sym same_at)
+      (reads_record (askedF fit) (fitsF fit) z n id m unit word at i (subst (λ (q : Numbers). 1 ≤ word → word - 1 + at < q.heap → i ≡ heap_place q (word - 1 + at)) (sym kept) place) known inside)))))
 
   pub checks_at : (z w : Numbers) (n id : ℕ) (m : Me ℕ View) (o : Option F) (i : ℕ) → ((f : F) (s : Subject) (words : List ℕ) → fitsF f s words → length words ≤ longestF f s)
       → o ≡ Some fit → w ≡ z → m.0.publishes ≡ true
-      → Allows (Rule (askedF fit) (fitsF fit) z) n id m i (λ r. r) (checks_units (asked_by askedF o) (fits_by fitsF o) (longest_by longestF o) w (step n i 0 0 none) m)
+      → Allows (Rule (askedF fit) (fitsF fit) z) n id m i (λ r. r) (UnitReload (asked_by askedF o) (fits_by fitsF o) (longest_by longestF o) w (step n i 0 0 none) m)
   checks_at z w n id m o i short is same_numbers publishes =
-      subst (λ (o' : Option F). Allows (Rule (askedF fit) (fitsF fit) z) n id m i (λ r. r) (checks_units (asked_by askedF o') (fits_by fitsF o') (longest_by longestF o') w (step n i 0 0 none) m)) (sym is)
-      (subst (λ (w' : Numbers). Allows (Rule (askedF fit) (fitsF fit) z) n id m i (λ r. r) (checks_units (askedF fit) (fitsF fit) (longestF fit) w' (step n i 0 0 none) m)) (sym same_numbers)
+      subst (λ (o' : Option F). Allows (Rule (askedF fit) (fitsF fit) z) n id m i (λ r. r) (UnitReload (asked_by askedF o') (fits_by fitsF o') (longest_by longestF o') w (step n i 0 0 none) m)) (sym is)
+      (subst (λ (w' : Numbers). Allows (Rule (askedF fit) (fitsF fit) z) n id m i (λ r. r) (UnitReload (askedF fit) (fitsF fit) (longestF fit) w' (step n i 0 0 none) m)) (sym same_numbers)
       (checks_all (askedF fit) (fitsF fit) z (longestF fit) (short fit) n id m i publishes))
 
   pub sound_at : (z w : Numbers) (v : View) (o : Option F) → o ≡ Some fit → w ≡ z → AreSoundUnits (asked_by askedF o) (fits_by fitsF o) (longest_by longestF o) w v → AreSoundUnits (askedF fit) (fitsF fit) (longestF fit) z v
@@ -367,14 +367,14 @@ module _ {F : Type 0} (askedF : F → List (List ℕ)) (fitsF : F → Subject �
       (subst (λ (o' : Option F). FitsKnown (fits_by fitsF o') w v named words) is (t words (subst (λ (k : ℕ). KnowsRecord v k words) (sym same_word) knows) whole)))
 
 pub lays_at : (asked : List (List ℕ)) (fits : Subject → List ℕ → Type 0) (z z' : Numbers) (n id : ℕ) (m : Me ℕ View) (at i new : ℕ) → z ≡ z' → (at < z'.heap → i ≡ heap_place z' at) → m.0.publishes ≡ true
-    → at ≡ length (heap_of m.0.units.built) + length m.0.units.partly → at < z.heap → new < 2 ^ 32 → Allows (Rule asked fits z) n id m i (λ _. new) (λ _. stores_heap_word (step n i new 0 none) m new)
-lays_at asked fits z z' n id m at i new told place publishes is room small =
-    lays asked fits z n id m i new ((subst (λ (q : Numbers). at < q.heap → i ≡ heap_place q at) (sym told) place) room ∙ ap (λ (k : ℕ). heap_place z k) is) publishes (omega arith) small
+    → at ≡ length (heap_of m.0.units.built) + length m.0.units.partly → at < z.heap → new < 2 ^ 32 → Allows (Rule asked fits z) n id m i (λ _. new) (λ _. HeapStore (step n i new 0 none) m new)
+lays_at asked fits z z' n id m at i new kept place publishes is room small =
+    lays asked fits z n id m i new ((subst (λ (q : Numbers). at < q.heap → i ≡ heap_place q at) (sym kept) place) room ∙ ap (λ (k : ℕ). heap_place z k) is) publishes (omega arith) small
 
 pub publishes_at : (asked : List (List ℕ)) (fits : Subject → List ℕ → Type 0) (z z' : Numbers) (n id : ℕ) (m : Me ℕ View) (named unit i new : ℕ) → z ≡ z' → (unit < z'.libraries + z'.rows → i ≡ address_place z' unit) → i < width z' → named ≡ unit
     → m.0.publishes ≡ true → MayPublish fits z m.0 unit m.0.units.partly → IsRecord m.0.units.partly → address_of m.0.units.built unit ≡ 0 → new ≡ 1 + length (heap_of m.0.units.built)
-    → Allows (Rule asked fits z) n id m i (λ _. new) (λ _. stores_address named (step n i new 0 none) m new)
-publishes_at asked fits z z' n id m named unit i new told place inside same publishes may whole none' is =
-    subst (λ (k : ℕ). Allows (Rule asked fits z) n id m i (λ _. new) (λ _. stores_address k (step n i new 0 none) m new)) (sym same)
-    (publishes_record asked fits z n id m unit i new (subst (λ (q : Numbers). unit < q.libraries + q.rows → i ≡ address_place q unit) (sym told) place)
-    (subst (λ (q : Numbers). i < width q) (sym told) inside) publishes may whole none' is)
+    → Allows (Rule asked fits z) n id m i (λ _. new) (λ _. AddressStore named (step n i new 0 none) m new)
+publishes_at asked fits z z' n id m named unit i new kept place inside same publishes may whole none' is =
+    subst (λ (k : ℕ). Allows (Rule asked fits z) n id m i (λ _. new) (λ _. AddressStore k (step n i new 0 none) m new)) (sym same)
+    (publishes_record asked fits z n id m unit i new (subst (λ (q : Numbers). unit < q.libraries + q.rows → i ≡ address_place q unit) (sym kept) place)
+    (subst (λ (q : Numbers). i < width q) (sym kept) inside) publishes may whole none' is)

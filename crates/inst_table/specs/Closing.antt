@@ -9,7 +9,7 @@ use Rattle.inst_table.specs.Passes.{KnowsRow, KnowsAddress, KnowsRecord}
 use Rattle.inst_table.specs.declared.setup.Numbers.{Numbers}
 use Rattle.inst_table.specs.declared.view.View.{View}
 use Rattle.inst_table.specs.declared.view.Unit.{Unit}
-use Rattle.inst_table.specs.declared.view.Known.TheVariants.{KeyWord, HeapWord}
+use Rattle.inst_table.specs.declared.view.KnownWord.TheVariants.{KeyWord, HeapWord}
 
 -- The key words that are known are those of the rows.
 abbrev pub KnowsRightKeys : View → List (List ℕ) → Type 0
@@ -18,7 +18,7 @@ KnowsRightKeys v rows = (row at word : ℕ) → Contains v.known (KeyWord row at
 -- The words that are known are those of the rows and of the units.
 pub record AgreesWith (v : View) (rows : List (List ℕ)) (us : List Unit) : Type 0 where
   pub keys : KnowsRightKeys v rows
-  pub addresses : (unit word : ℕ) → KnowsAddress v unit word → address_of us unit ≡ word
+  pub addresses : (unit word : ℕ) → KnowsAddress v unit word → (word ≢ 0) × (address_of us unit ≡ word)
   pub heap : (at word : ℕ) → Contains v.known (HeapWord at word) → word ≡ slice_index (heap_of us) at
 
 -- The unit of a row: nothing where it has no address, and else the record in the heap at its address, which fits the row's key.

@@ -14,8 +14,8 @@ use Rattle.inst_table.specs.declared.view.Walk.{Walk}
 use Rattle.inst_table.specs.declared.view.Rows.{Rows}
 use Rattle.inst_table.specs.declared.view.Unit.{Unit}
 use Rattle.inst_table.specs.declared.view.Units.{Units}
-use Rattle.inst_table.specs.declared.view.Known.{Known}
-use Rattle.inst_table.specs.declared.view.Known.TheVariants.{KeyWord, AddressWord, HeapWord}
+use Rattle.inst_table.specs.declared.view.KnownWord.{KnownWord}
+use Rattle.inst_table.specs.declared.view.KnownWord.TheVariants.{KeyWord, AddressWord, HeapWord}
 
 -- What the words of the table stand for.
 pub record Content : Type 0 where
@@ -80,7 +80,7 @@ pub record UnitsAreSound (fits : Subject → List ℕ → Type 0) (z : Numbers) 
   pub small : All (λ w. w < 2 ^ 32) y.partly
 
 -- A word that is known has its value for good.
-abbrev pub IsRight : Content → ℕ → Known → Type 0
+abbrev pub IsRight : Content → ℕ → KnownWord → Type 0
 IsRight c seen (KeyWord row at word) = (row < seen) × (at < key_words) × (word ≡ key_word c.rows.linked row at)
 IsRight c seen (AddressWord unit word) = (word ≢ 0) × (address_of c.units.built unit ≡ word)
 IsRight c seen (HeapWord at word) = (at < length (heap_of c.units.built)) × (word ≡ slice_index (heap_of c.units.built) at)
@@ -111,8 +111,8 @@ pub record Claims (c : Content) (v : View) : Type 0 where
   pub absent : All (λ a. (a.1 ≤ v.seen) × NoneBetween c.rows.linked a.0 0 a.1) v.absent
   pub walk : IfSome v.walk (IsOnTheWay c.rows v.seen)
   pub walked : All (λ p. StandsIn c.rows.linked p.1 p.0) v.walked
-  pub heard : All (λ m. m.1 ≢ 0 → address_of c.units.built m.0 ≡ m.1) v.mine
-  pub one_way : IsOneWay v.mine
+  pub loads : All (λ m. m.1 ≢ 0 → address_of c.units.built m.0 ≡ m.1) v.address_loads
+  pub one_way : IsOneWay v.address_loads
   pub creates : v.creates ≡ true → v.rows ≡ c.rows
   pub publishes : v.publishes ≡ true → v.units ≡ c.units
 

@@ -10,7 +10,7 @@ pub mod Plays
 pub mod Names
 pub mod Find
 pub mod Creations
-pub mod Heard
+pub mod AddressLoads
 pub mod Publications
 pub mod Closing
 pub mod Sample

@@ -2,6 +2,7 @@
 use Rattle.std.specs.Prelude.{ℕ, List}
 use Rattle.atomic_table.specs.Seated.{TableId}
 use Rattle.inst_table.specs.declared.setup.Numbers.{Numbers}
+use Rattle.inst_table.specs.declared.setup.Fit.{Ghosts}
 use Rattle.inst_table.specs.declared.table.Table.{Table}
 use Rattle.inst_table.specs.declared.pass.Pass.{Pass}
 use Rattle.inst_table.specs.declared.creator.Creator.{Creator}
@@ -31,14 +32,14 @@ publisher_home_of publisher = publisher.seat.table_id
 abbrev pub units_of : Publisher → List Unit
 units_of publisher = publisher.seat.me.0.units.built
 
-module _ {F : Type 0} where
+module _ {F : Type 0} {G : Ghosts F} where
   -- the identity of a table
-  abbrev pub id_of : Table F → TableId
+  abbrev pub id_of : Table F G → TableId
   id_of table = table.words.shared.table_id
 
   -- the value and the numbers that it was made with
-  abbrev pub fit_of : Table F → F
+  abbrev pub fit_of : Table F G → F
   fit_of table = table.words.shared.key.fit
 
-  abbrev pub numbers_of : Table F → Numbers
+  abbrev pub numbers_of : Table F G → Numbers
   numbers_of table = table.words.shared.key.numbers

@@ -4,8 +4,8 @@ use Rattle.inst_table.specs.Bucket.{key_words, bucket_of}
 use Rattle.inst_table.specs.Subject.{Subject, library, pair}
 use Rattle.inst_table.specs.declared.setup.Numbers.{Numbers}
 use Rattle.inst_table.specs.declared.view.View.{View}
-use Rattle.inst_table.specs.declared.view.Known.{Known}
-use Rattle.inst_table.specs.declared.view.Known.TheVariants.{KeyWord, AddressWord, HeapWord}
+use Rattle.inst_table.specs.declared.view.KnownWord.{KnownWord}
+use Rattle.inst_table.specs.declared.view.KnownWord.TheVariants.{KeyWord, AddressWord, HeapWord}
 
 -- It knows all words of the row, and they are the key.
 abbrev pub KnowsRow : View → ℕ → List ℕ → Type 0
@@ -25,7 +25,7 @@ LooksOnce v w = w.looks ≡ v.looks + 1
 -- It knows at least what it knew.
 pub record KnowsAtLeast (v w : View) : Type 0 where
   pub seen : v.seen ≤ w.seen
-  pub words : (word : Known) → Contains v.known word → Contains w.known word
+  pub words : (word : KnownWord) → Contains v.known word → Contains w.known word
   pub absences : (absence : List ℕ × ℕ) → Contains v.absent absence → Contains w.absent absence
 
 -- Each key word that it has learnt is of a row to which a look-up in the key's bucket came.
@@ -35,13 +35,13 @@ LearnsAlongChain v w key = (row at word : ℕ) → Contains w.known (KeyWord row
 -- It has learnt words of the row, and nothing else.
 pub record LearnsRow (v : View) (row : ℕ) (w : View) : Type 0 where
   pub rest : w ≡ record v { known = w.known }
-  pub words : (word : Known) → Contains v.known word → Contains w.known word
-  pub of_row : (word : Known) → Contains w.known word → Contains v.known word ⊎ ((at : ℕ) × (x : ℕ) × (word ≡ KeyWord row at x))
+  pub words : (word : KnownWord) → Contains v.known word → Contains w.known word
+  pub of_row : (word : KnownWord) → Contains w.known word → Contains v.known word ⊎ ((at : ℕ) × (x : ℕ) × (word ≡ KeyWord row at x))
 
 -- It has gone along the chain of the key's bucket, and learnt words of the rows of the chain.
 pub record FollowsChain (v w : View) (key : List ℕ) : Type 0 where
   pub rest : w ≡ record v { known = w.known; absent = w.absent; walk = w.walk; walked = w.walked }
-  pub words : (word : Known) → Contains v.known word → Contains w.known word
+  pub words : (word : KnownWord) → Contains v.known word → Contains w.known word
   pub absences : (absence : List ℕ × ℕ) → Contains v.absent absence → Contains w.absent absence
   pub walked : (step : ℕ × ℕ) → Contains v.walked step → Contains w.walked step
   pub learns : LearnsAlongChain v w key
@@ -79,4 +79,4 @@ IsInRecord v word at = (at < 2) ⊎ ((first : ℕ) × (second : ℕ) × Contains
 -- It has learnt words, and nothing else.
 pub record LearnsWords (v w : View) : Type 0 where
   pub rest : w ≡ record v { known = w.known }
-  pub words : (word : Known) → Contains v.known word → Contains w.known word
+  pub words : (word : KnownWord) → Contains v.known word → Contains w.known word

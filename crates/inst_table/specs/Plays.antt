@@ -1,10 +1,10 @@
 -- What each step tells: of the step, the seat before, the number found (at a store, the number stored) and the seat after.
-use Rattle.std.specs.Prelude.{◌≡◌, ℕ, ◌+◌, ◌^◌, ◌<◌, ◌≤◌, List, [], length, All, Contains, Option, Some, None, ◌-◌, slice_index}
+use Rattle.std.specs.Prelude.{◌≡◌, ◌≢◌, ℕ, ◌+◌, ◌^◌, ◌<◌, ◌≤◌, List, [], length, All, Contains, Option, Some, None, ◌-◌, slice_index}
 use Rattle.atomic_table.specs.Table.{Me, Step}
 use Rattle.inst_table.specs.Bucket.{key_words, buckets}
 use Rattle.inst_table.specs.Layout.{head_place, key_place, next_place, address_place, heap_place}
 use Rattle.inst_table.specs.Chain.{key_word, bucket_at, newest}
-use Rattle.inst_table.specs.Views.{counted, come_to, learnt, with_rows, drafted, with_next, with_head, with_count, heard, with_units, laid, with_address}
+use Rattle.inst_table.specs.Views.{with_seen, with_walk, with_known, with_rows, rows_with_word, rows_with_next, rows_with_head, with_count, with_address_load, with_units, units_with_word, units_with_address}
 use Rattle.inst_table.specs.Subject.{Subject, all_subjects}
 use Rattle.inst_table.specs.Units.{IsRecord, heap_of, address_of, total}
 use Rattle.inst_table.specs.declared.setup.Numbers.{Numbers}
@@ -14,29 +14,29 @@ use Rattle.inst_table.specs.Lawful.{AreDistinct, IsOneWay}
 use Rattle.inst_table.specs.declared.view.Rows.{Rows}
 use Rattle.inst_table.specs.Passes.{KnowsNoRow, KnowsAddress, KnowsRecord, FitsKnown, MayPublish, IsKnownUnit}
 use Rattle.inst_table.specs.declared.view.View.{View}
-use Rattle.inst_table.specs.declared.view.Known.TheVariants.{KeyWord, HeapWord}
+use Rattle.inst_table.specs.declared.view.KnownWord.TheVariants.{KeyWord, HeapWord}
 
-abbrev pub Sat : Type 0
-Sat = Me ℕ View
+abbrev pub SeatState : Type 0
+SeatState = Me ℕ View
 
 abbrev pub Play : Type 1
-Play = Step ℕ → Sat → ℕ → Sat → Type 0
+Play = Step ℕ → SeatState → ℕ → SeatState → Type 0
 
 -- a load of the count
-abbrev pub reads_count : Play
-reads_count st m r n = (n ≡ (counted r m.0, m.1)) × (m.0.seen ≤ r) × (r < 2 ^ 32)
+abbrev pub CountLoad : ℕ → Play
+CountLoad room st m r n = (n ≡ (with_seen r m.0, m.1)) × (m.0.seen ≤ r) × (r < 2 ^ 32) × (r ≤ room)
 
 -- a look-up of the key among the rows below n comes to a row or to the end, where no row that is known has the key
-abbrev pub comes : ℕ → List ℕ → ℕ → Play
-comes room key below st m r n = (n ≡ (come_to key below r m.0, m.1)) × (r ≤ room) × (r ≡ 0 → KnowsNoRow m.0 key)
+abbrev pub HeadLoad : ℕ → List ℕ → ℕ → Play
+HeadLoad room key below st m r n = (n ≡ (with_walk key below r m.0, m.1)) × (r ≤ room) × (r ≡ 0 → KnowsNoRow m.0 key)
 
 -- a load of a next word, below the row
-abbrev pub goes_on : ℕ → List ℕ → ℕ → Play
-goes_on room key below st m r n = comes room key below st m r n × ((row : ℕ) → st.word ≡ next_place row → r ≤ row)
+abbrev pub NextLoad : ℕ → List ℕ → ℕ → Play
+NextLoad room key below st m r n = HeadLoad room key below st m r n × ((row : ℕ) → st.word ≡ next_place row → r ≤ row)
 
 -- a load of a key word
-abbrev pub reads_key_word : Play
-reads_key_word st m r n = (row at : ℕ) → at < key_words → st.word ≡ key_place row at → n ≡ (learnt (KeyWord row at r) m.0, m.1)
+abbrev pub KeyWordLoad : Play
+KeyWordLoad st m r n = (row at : ℕ) → at < key_words → st.word ≡ key_place row at → n ≡ (with_known (KeyWord row at r) m.0, m.1)
 
 -- A word of the rows is what their keys and chains say.
 pub record IsOfRows (x : Rows) (word found : ℕ) : Type 0 where
@@ -52,29 +52,29 @@ pub record AreSound (asked : List (List ℕ)) (room : ℕ) (keys : List (List �
   pub distinct : AreDistinct keys []
 
 -- a load by the creator, which knows all rows
-abbrev pub checks_rows : List (List ℕ) → ℕ → Play
-checks_rows asked room st m r n = (n ≡ m) × IsOfRows m.0.rows st.word r × AreSound asked room m.0.rows.linked × KnowsRightKeys m.0 m.0.rows.linked
+abbrev pub RowReload : List (List ℕ) → ℕ → Play
+RowReload asked room st m r n = (n ≡ m) × IsOfRows m.0.rows st.word r × AreSound asked room m.0.rows.linked × KnowsRightKeys m.0 m.0.rows.linked
 
 -- the stores of the creator: of a key word, of a next word, of a bucket head and of the count
-abbrev pub stores_key_word : Play
-stores_key_word st m r n = n ≡ (with_rows (drafted st.first m.0.rows) m.0, m.1)
+abbrev pub KeyWordStore : Play
+KeyWordStore st m r n = n ≡ (with_rows (rows_with_word st.first m.0.rows) m.0, m.1)
 
-abbrev pub stores_next : Play
-stores_next st m r n = n ≡ (with_rows (with_next m.0.rows) m.0, m.1)
+abbrev pub NextStore : Play
+NextStore st m r n = n ≡ (with_rows (rows_with_next m.0.rows) m.0, m.1)
 
-abbrev pub stores_head : Play
-stores_head st m r n = n ≡ (with_rows (with_head m.0.rows) m.0, m.1)
+abbrev pub HeadStore : Play
+HeadStore st m r n = n ≡ (with_rows (rows_with_head m.0.rows) m.0, m.1)
 
-abbrev pub stores_count : Play
-stores_count st m r n = n ≡ (with_count m.0, m.1)
+abbrev pub CountStore : Play
+CountStore st m r n = n ≡ (with_count m.0, m.1)
 
 -- a load of the address word of a unit, which is the one that is known
-abbrev pub reads_address : ℕ → Play
-reads_address unit st m r n = (n ≡ (heard unit r m.0, m.1)) × ((word : ℕ) → KnowsAddress m.0 unit word → r ≡ word) × IsOneWay n.0.mine
+abbrev pub AddressLoad : ℕ → Play
+AddressLoad unit st m r n = (n ≡ (with_address_load unit r m.0, m.1)) × ((word : ℕ) → KnowsAddress m.0 unit word → (r ≡ word) × (word ≢ 0)) × IsOneWay n.0.address_loads
 
 -- a load of a word of the record at an address word: whatever record is then known whole fits the unit
-abbrev pub reads_heap : (Subject → List ℕ → Type 0) → Numbers → ℕ → ℕ → ℕ → Play
-reads_heap fits z unit word at st m r n = (n ≡ (learnt (HeapWord (word - 1 + at) r) m.0, m.1)) × (r < 2 ^ 32)
+abbrev pub HeapLoad : (Subject → List ℕ → Type 0) → Numbers → ℕ → ℕ → ℕ → Play
+HeapLoad fits z unit word at st m r n = (n ≡ (with_known (HeapWord (word - 1 + at) r) m.0, m.1)) × (r < 2 ^ 32)
     × ((words : List ℕ) → KnowsRecord n.0 word words → IsRecord words → FitsKnown fits z n.0 unit words)
 
 -- A word of the units is what they say.
@@ -92,19 +92,19 @@ pub record AreSoundUnits (asked : List (List ℕ)) (fits : Subject → List ℕ 
   pub within : length (heap_of v.units.built) ≤ z.heap
   pub inside : (unit : ℕ) → IsKnownUnit z v unit → unit < z.libraries + z.rows
   pub leaves_room : LeavesRoom asked fits longest z v
-  pub known : (unit word : ℕ) → KnowsAddress v unit word → address_of v.units.built unit ≡ word
+  pub known : (unit word : ℕ) → KnowsAddress v unit word → (word ≢ 0) × (address_of v.units.built unit ≡ word)
   pub heap_known : (at word : ℕ) → Contains v.known (HeapWord at word) → word ≡ slice_index (heap_of v.units.built) at
 
 -- a load by the publisher, who knows all units
-abbrev pub checks_units : List (List ℕ) → (Subject → List ℕ → Type 0) → (Subject → ℕ) → Numbers → Play
-checks_units asked fits longest z st m r n = (n ≡ m) × IsOfUnits z m.0.units st.word r × AreSoundUnits asked fits longest z m.0
+abbrev pub UnitReload : List (List ℕ) → (Subject → List ℕ → Type 0) → (Subject → ℕ) → Numbers → Play
+UnitReload asked fits longest z st m r n = (n ≡ m) × IsOfUnits z m.0.units st.word r × AreSoundUnits asked fits longest z m.0
 
 -- the stores of the publisher: of a heap word and of an address word
-abbrev pub stores_heap_word : Play
-stores_heap_word st m r n = n ≡ (with_units (laid st.first m.0.units) m.0, m.1)
+abbrev pub HeapStore : Play
+HeapStore st m r n = n ≡ (with_units (units_with_word st.first m.0.units) m.0, m.1)
 
-abbrev pub stores_address : ℕ → Play
-stores_address unit st m r n = n ≡ (with_units (with_address unit m.0.units) m.0, m.1)
+abbrev pub AddressStore : ℕ → Play
+AddressStore unit st m r n = n ≡ (with_units (units_with_address unit m.0.units) m.0, m.1)
 
 -- what a `Fit` value says, where there is one
 abbrev pub asked_by : {F : Type 0} → (F → List (List ℕ)) → Option F → List (List ℕ)

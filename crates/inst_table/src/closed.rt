@@ -10,7 +10,7 @@ use crate::creator::Creator;
 use crate::layout::COUNT;
 use crate::pass::Pass;
 use crate::publisher::Publisher;
-use crate::rule::{Asked, Meaning};
+use crate::rule::{RowOperands, UnitOperands};
 use crate::setup::Fit;
 use crate::table::Table;
 use std::alloc::{AllocError, Global};
@@ -45,7 +45,7 @@ fn read_unit<F: Fit>(
     requires known { (key : List ℕ) × KnowsRow (view_of pass.old) row key }
     ensures table { home_of pass.new ≡ home_of pass.old }
     ensures knows { KnowsAtLeast (view_of pass.old) (view_of pass.new) }
-    ensures mine { BeginsWith (view_of pass.new).mine (view_of pass.old).mine }
+    ensures address_loads { BeginsWith (view_of pass.new).address_loads (view_of pass.old).address_loads }
     ensures unit { IfOk result (IsReadUnit (F.fits (fit_of table.now)) (numbers_of table.now) (view_of pass.old) (view_of pass.new) row) }
 {
     match pass.address(table, table.numbers.libraries + row) {
@@ -65,7 +65,7 @@ fn read_units<F: Fit>(
     requires known { (row : ℕ) → row < count → (key : List ℕ) × KnowsRow (view_of pass.old) row key }
     ensures table { home_of pass.new ≡ home_of pass.old }
     ensures knows { KnowsAtLeast (view_of pass.old) (view_of pass.new) }
-    ensures mine { BeginsWith (view_of pass.new).mine (view_of pass.old).mine }
+    ensures address_loads { BeginsWith (view_of pass.new).address_loads (view_of pass.old).address_loads }
     ensures units { IfOk result (λ units. (length units.items ≡ count) × ((row : ℕ) → row < count
         → IsReadUnit (F.fits (fit_of table.now)) (numbers_of table.now) (view_of pass.old) (view_of pass.new) row (slice_index_or units.items row None))) }
 {
@@ -77,7 +77,7 @@ fn read_units<F: Fit>(
 }
 
 // What the pass knows is so, by the creator's and the publisher's records.
-fn settle<A: Asked, K: Meaning<F>, F: Fit>(
+fn settle<A: RowOperands, K: UnitOperands<F>, F: Fit>(
     table: &Table<F>,
     creator: Creator,
     publisher: Publisher,
@@ -102,7 +102,7 @@ fn settle<A: Asked, K: Meaning<F>, F: Fit>(
 }
 
 // All that is to be given, in memory of its own.
-fn read_all<A: Asked, F: Fit>(
+fn read_all<A: RowOperands, F: Fit>(
     alloc: Global,
     table: &Table<F>,
     creator: &mut Creator,
@@ -114,7 +114,7 @@ fn read_all<A: Asked, F: Fit>(
     ensures table { (home_of pass.new ≡ home_of pass.old) × (creator_home_of creator.new ≡ creator_home_of creator.old) × (publisher_home_of publisher.new ≡ publisher_home_of publisher.old) }
     ensures records { (rows_of creator.new ≡ rows_of creator.old) × (units_of publisher.new ≡ units_of publisher.old) }
     ensures knows { KnowsAtLeast (view_of pass.old) (view_of pass.new) }
-    ensures mine { BeginsWith (view_of pass.new).mine (view_of pass.old).mine }
+    ensures address_loads { BeginsWith (view_of pass.new).address_loads (view_of pass.old).address_loads }
     ensures rows { IfOk result (λ closed. closed.rows.items ≡ rows_of creator.old) }
     ensures sound { AreSound A.asked A.room (rows_of creator.old) }
     ensures units { IfOk result (λ closed. AgreesWith (view_of pass.new) (rows_of creator.old) (units_of publisher.old)
@@ -145,12 +145,12 @@ pub fn close<F: Fit>(
     ensures known { IfOk result (λ closed. AgreesWith (view_of pass) closed.rows.items (units_of publisher)) }
     ensures table { IfErr result (λ refused. (refused.0.table ≡ table) × (home_of refused.0.pass ≡ id_of table) × (creator_home_of refused.0.creator ≡ id_of table) × (publisher_home_of refused.0.publisher ≡ id_of table)) }
     ensures records { IfErr result (λ refused. (rows_of refused.0.creator ≡ rows_of creator) × (units_of refused.0.publisher ≡ units_of publisher)) }
-    ensures pass { IfErr result (λ refused. KnowsAtLeast (view_of pass) (view_of refused.0.pass) × BeginsWith (view_of refused.0.pass).mine (view_of pass).mine) }
+    ensures pass { IfErr result (λ refused. KnowsAtLeast (view_of pass) (view_of refused.0.pass) × BeginsWith (view_of refused.0.pass).address_loads (view_of pass).address_loads) }
 {
     close_in::<Brand, Brand, F>(alloc, table, creator, publisher, pass)
 }
 
-fn close_in<A: Asked, K: Meaning<F>, F: Fit>(
+fn close_in<A: RowOperands, K: UnitOperands<F>, F: Fit>(
     alloc: Global,
     table: Table<F>,
     mut creator: Creator,
@@ -166,7 +166,7 @@ fn close_in<A: Asked, K: Meaning<F>, F: Fit>(
     ensures known { IfOk result (λ closed. AgreesWith (view_of pass) (rows_of creator) (units_of publisher)) }
     ensures table { IfErr result (λ refused. (refused.0.table ≡ table) × (home_of refused.0.pass ≡ id_of table) × (creator_home_of refused.0.creator ≡ id_of table) × (publisher_home_of refused.0.publisher ≡ id_of table)) }
     ensures records { IfErr result (λ refused. (rows_of refused.0.creator ≡ rows_of creator) × (units_of refused.0.publisher ≡ units_of publisher)) }
-    ensures pass { IfErr result (λ refused. KnowsAtLeast (view_of pass) (view_of refused.0.pass) × BeginsWith (view_of refused.0.pass).mine (view_of pass).mine) }
+    ensures pass { IfErr result (λ refused. KnowsAtLeast (view_of pass) (view_of refused.0.pass) × BeginsWith (view_of refused.0.pass).address_loads (view_of pass).address_loads) }
 {
     match read_all::<A, F>(alloc, &table, &mut creator, &mut publisher, &mut pass) {
         Ok(closed) => {

@@ -8,7 +8,7 @@ ghost use Rattle.inst_table.specs.Plays.{AreSound};
 
 use crate::KEY_WORDS;
 use crate::pass::Pass;
-use crate::rule::{Asked, Seat};
+use crate::rule::{RowOperands, Seat};
 use crate::setup::Fit;
 use crate::table::Table;
 use std::marker::Brand;
@@ -43,7 +43,7 @@ impl Creator {
         requires asked { Contains (F.asked (fit_of table.now)) key.now }
         ensures table { creator_home_of self.new ≡ creator_home_of self.old }
         ensures new { IfNew result (λ row. (¬ Contains (rows_of self.old) key.now) × (row ≡ length (rows_of self.old)) × (row < (numbers_of table.now).rows) × (rows_of self.new ≡ add (rows_of self.old) key.now)) }
-        ensures old { IfOld result (λ row. (row < length (rows_of self.old)) × (key_at (rows_of self.old) row ≡ key.now) × (rows_of self.new ≡ add (rows_of self.old) key.now)) }
+        ensures old { IfOld result (λ row. (row < length (rows_of self.old)) × (row < (numbers_of table.now).rows) × (key_at (rows_of self.old) row ≡ key.now) × (rows_of self.new ≡ add (rows_of self.old) key.now)) }
         ensures full { IfFull result (λ n. (¬ Contains (rows_of self.old) key.now) × (n ≡ length (rows_of self.old)) × (n ≡ (numbers_of table.now).rows) × (rows_of self.new ≡ rows_of self.old)) }
         ensures never_full { length (F.asked (fit_of table.now)) ≤ (numbers_of table.now).rows → IfFull result (λ _. ⊥) }
         ensures note { IfNote result (λ row note. (home_of note ≡ id_of table.now) × KnowsRow (view_of note) row key.now) }
@@ -51,13 +51,17 @@ impl Creator {
         self.create_in::<Brand, F>(table, key)
     }
 
-    fn create_in<K: Asked, F: Fit>(&mut self, table: &Table<F>, key: &[u64; KEY_WORDS]) -> Created
+    fn create_in<K: RowOperands, F: Fit>(
+        &mut self,
+        table: &Table<F>,
+        key: &[u64; KEY_WORDS],
+    ) -> Created
         requires table { creator_home_of self.old ≡ id_of table.now }
         requires named { (K.asked ≡ F.asked (fit_of table.now)) × (K.room ≡ (numbers_of table.now).rows) }
         requires asked { Contains (F.asked (fit_of table.now)) key.now }
         ensures table { creator_home_of self.new ≡ creator_home_of self.old }
         ensures new { IfNew result (λ row. NoneBetween (rows_of self.old) key.now 0 row × (row ≡ length (rows_of self.old)) × (row < K.room) × (rows_of self.new ≡ rows_of self.old ++ key.now ∷ [])) }
-        ensures old { IfOld result (λ row. (row < length (rows_of self.old)) × (key_at (rows_of self.old) row ≡ key.now) × (rows_of self.new ≡ rows_of self.old)) }
+        ensures old { IfOld result (λ row. (row < length (rows_of self.old)) × (row < K.room) × (key_at (rows_of self.old) row ≡ key.now) × (rows_of self.new ≡ rows_of self.old)) }
         ensures full { IfFull result (λ n. NoneBetween (rows_of self.old) key.now 0 n × (n ≡ length (rows_of self.old)) × (n ≡ K.room) × (rows_of self.new ≡ rows_of self.old)) }
         ensures sound { AreSound K.asked K.room (rows_of self.old) }
         ensures note { IfNote result (λ row note. (home_of note ≡ id_of table.now) × KnowsRow (view_of note) row key.now) }

@@ -19,14 +19,12 @@ mod view;
 
 pub use closed::{CloseParts, Closed, close};
 pub use creator::{Created, Creator};
+pub use limits::KEY_WORDS;
 pub use pass::{Address, Find, Pass};
 pub use publisher::{Published, Publisher};
 pub use setup::{Fit, Numbers, Setup};
 pub use table::Table;
-pub use view::{Known, Rows, Unit, Units, View, Walk};
-
-/// The number of words of a key.
-pub const KEY_WORDS: usize = 56;
+pub use view::{KnownWord, Rows, Unit, Units, View, Walk};
 
 /// The number of buckets.
 pub const BUCKETS: usize = 256;

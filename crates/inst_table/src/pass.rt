@@ -2,12 +2,12 @@
 ghost use Rattle.std.specs.Prelude.{◌≡◌, ◌≢◌, ℕ, suc, ◌+◌, ◌-◌, ◌≤◌, ◌<◌, ◌⊎◌, [], Some, true, false, Contains, MatchBool, MatchOption, IfSome, IfOk};
 ghost use Rattle.inst_table.specs.Bucket.{key_words, bucket_of};
 ghost use Rattle.inst_table.specs.Find.{IfHit, IfMiss};
-ghost use Rattle.inst_table.specs.Views.{told};
+ghost use Rattle.inst_table.specs.Views.{split_view};
 ghost use Rattle.inst_table.specs.Passes.{KnowsRow, KnowsNoRow, KnowsAddress, KnowsRecord, KnowsAtLeast, IsKnownUnit, FitsKnown, LooksOnce, LearnsAlongChain};
 ghost use Rattle.inst_table.specs.Units.{IsRecord};
 
 use crate::KEY_WORDS;
-use crate::rule::{Both, Seat, Tells};
+use crate::rule::{JoinsPass, Seat, SplitsPass};
 use crate::setup::Fit;
 use crate::table::Table;
 use std::alloc::{AllocError, Global};
@@ -31,7 +31,7 @@ pub enum Find {
 
 impl Pass {
     ghost use Rattle.inst_table.specs.Names.{home_of, view_of, id_of, fit_of, numbers_of};
-    ghost use Rattle.inst_table.specs.Heard.{word_of, Hears};
+    ghost use Rattle.inst_table.specs.AddressLoads.{word_of, LoadsAddress};
 
     pub(crate) fn new(seat: Seat) -> Pass
         requires { seat.me.1 ≡ [] }
@@ -46,13 +46,15 @@ impl Pass {
         ensures table { home_of self.new ≡ home_of self.old }
         ensures looks { LooksOnce (view_of self.old) (view_of self.new) }
         ensures hit { IfHit result (λ row. KnowsRow (view_of self.new) row key.now) }
+        ensures row { IfHit result (λ row. row < (numbers_of table.now).rows) }
         ensures miss { IfMiss result (λ n. ((view_of self.new).seen ≡ n) × ((view_of self.old).seen ≤ n) × Contains (view_of self.new).absent (key.now, n)) }
+        ensures room { IfMiss result (λ n. n ≤ (numbers_of table.now).rows) }
         ensures never_missed { IfMiss result (λ _. KnowsNoRow (view_of self.old) key.now) }
         ensures chain { LearnsAlongChain (view_of self.old) (view_of self.new) key.now }
         ensures knows { KnowsAtLeast (view_of self.old) (view_of self.new) }
-        ensures mine { (view_of self.new).mine ≡ (view_of self.old).mine }
+        ensures address_loads { (view_of self.new).address_loads ≡ (view_of self.old).address_loads }
     {
-        let count = table.count(&mut self.seat);
+        let count = table.count::<Brand>(&mut self.seat);
         match table.follow::<Brand>(&mut self.seat, key, count) {
             Some(row) => Find::Hit(row),
             None => Find::Miss(count),
@@ -64,12 +66,12 @@ impl Pass {
         requires { home_of self.old ≡ id_of table.now }
         ensures table { (home_of self.new ≡ home_of self.old) × (home_of result ≡ home_of self.old) }
         ensures same { view_of self.new ≡ view_of self.old }
-        ensures told { view_of result ≡ told (view_of self.old) }
+        ensures pass { view_of result ≡ split_view (view_of self.old) }
         ensures knows { KnowsAtLeast (view_of self.old) (view_of result) }
-        ensures mine { (view_of result).mine ≡ [] }
+        ensures address_loads { (view_of result).address_loads ≡ [] }
     {
         Pass {
-            seat: table.words.shared.split_seat::<Tells>(&mut self.seat),
+            seat: table.words.shared.split_seat::<SplitsPass>(&mut self.seat),
         }
     }
 
@@ -79,10 +81,13 @@ impl Pass {
         ensures table { home_of self.new ≡ home_of self.old }
         ensures knows { KnowsAtLeast (view_of self.old) (view_of self.new) }
         ensures others { KnowsAtLeast (view_of other) (view_of self.new) }
-        ensures mine { (view_of self.new).mine ≡ (view_of self.old).mine }
+        ensures address_loads { (view_of self.new).address_loads ≡ (view_of self.old).address_loads }
     {
         let Pass { seat } = other;
-        table.words.shared.join_seat::<Both>(&mut self.seat, seat);
+        table
+            .words
+            .shared
+            .join_seat::<JoinsPass>(&mut self.seat, seat);
     }
 
     /// Loads the address word of a unit: `None` is 0.
@@ -90,7 +95,7 @@ impl Pass {
         requires table { home_of self.old ≡ id_of table.now }
         requires known { IsKnownUnit (numbers_of table.now) (view_of self.old) unit }
         ensures table { home_of self.new ≡ home_of self.old }
-        ensures heard { Hears (view_of self.old) (view_of self.new) unit (word_of result) }
+        ensures loads { LoadsAddress (view_of self.old) (view_of self.new) unit (word_of result) }
         ensures address { IfSome result (λ a. (a.unit ≡ unit) × (a.word ≢ 0) × KnowsAddress (view_of self.new) unit a.word) }
         ensures knows { KnowsAtLeast (view_of self.old) (view_of self.new) }
     {
@@ -114,7 +119,7 @@ impl Pass {
         ensures record { IfOk result (λ words. IsRecord words.items × KnowsRecord (view_of self.new) address.word words.items) }
         ensures fits { IfOk result (λ words. FitsKnown (F.fits (fit_of table.now)) (numbers_of table.now) (view_of self.new) address.unit words.items) }
         ensures knows { KnowsAtLeast (view_of self.old) (view_of self.new) }
-        ensures mine { (view_of self.new).mine ≡ (view_of self.old).mine }
+        ensures address_loads { (view_of self.new).address_loads ≡ (view_of self.old).address_loads }
     {
         table.read_whole(alloc, &mut self.seat, address)
     }

@@ -6,7 +6,7 @@ ghost use Rattle.inst_table.specs.Passes.{KnowsAddress, KnowsAtLeast, MayPublish
 ghost use Rattle.inst_table.specs.Publications.{IfAccepted, IfAlready, IfHeapFull, IfAddress};
 
 use crate::pass::{Address, Pass};
-use crate::rule::{Meaning, Seat};
+use crate::rule::{Seat, UnitOperands};
 use crate::setup::Fit;
 use crate::table::Table;
 use std::marker::Brand;
@@ -57,12 +57,12 @@ impl Publisher {
         ensures never_full { total (F.longest (fit_of table.now)) (all_subjects (numbers_of table.now).libraries (F.asked (fit_of table.now))) ≤ (numbers_of table.now).heap
             → IfHeapFull result (λ _. ⊥) }
         ensures note { IfAddress result (λ a note. (home_of note ≡ id_of table.now) × KnowsAtLeast (view_of by) (view_of note)
-            × KnowsAddress (view_of note) unit a.word) }
+            × KnowsAddress (view_of note) unit a.word × (a.word ≢ 0)) }
     {
         self.publish_in::<Brand, F>(table, unit, by, words)
     }
 
-    fn publish_in<K: Meaning<F>, F: Fit>(
+    fn publish_in<K: UnitOperands<F>, F: Fit>(
         &mut self,
         table: &Table<F>,
         unit: u32,
@@ -84,7 +84,7 @@ impl Publisher {
         ensures never_full { total (F.longest (fit_of table.now)) (all_subjects (numbers_of table.now).libraries (F.asked (fit_of table.now))) ≤ (numbers_of table.now).heap
             → IfHeapFull result (λ _. ⊥) }
         ensures note { IfAddress result (λ a note. (home_of note ≡ id_of table.now) × KnowsAtLeast (view_of by) (view_of note)
-            × KnowsAddress (view_of note) unit a.word) }
+            × KnowsAddress (view_of note) unit a.word × (a.word ≢ 0)) }
     {
         table.take_in(&mut self.seat, by);
         let word = table.own_address::<K>(&mut self.seat, unit);

@@ -3,7 +3,7 @@ ghost use Rattle.std.specs.Prelude.{◌≡◌, ◌≢◌, ℕ, suc, ◌+◌, ◌
 ghost use Rattle.inst_table.specs.Bucket.{key_words, buckets, bucket_of};
 ghost use Rattle.inst_table.specs.Layout.{head_place};
 ghost use Rattle.inst_table.specs.Chain.{key_at, key_word, bucket_at, newest};
-ghost use Rattle.inst_table.specs.Views.{with_rows, drafted, with_next, with_head, with_count, added, told_of_rows};
+ghost use Rattle.inst_table.specs.Views.{with_rows, rows_with_word, rows_with_next, rows_with_head, with_count, with_row, row_note};
 ghost use Rattle.inst_table.specs.Lawful.{NoneBetween};
 ghost use Rattle.inst_table.specs.Plays.{IsOfRows, AreSound};
 ghost use Rattle.inst_table.specs.Closing.{KnowsRightKeys};
@@ -12,7 +12,7 @@ use crate::KEY_WORDS;
 use crate::layout::{COUNT, bucket_of, head_place, key_place, next_place};
 use crate::pass::Pass;
 use crate::rule::{
-    Asked, ChecksRows, Seat, StoresCount, StoresHead, StoresKeyWord, StoresNext, TellsRows,
+    NotesRows, ReloadsOwnRow, RowOperands, Seat, StoresCount, StoresHead, StoresKeyWord, StoresNext,
 };
 use crate::setup::Fit;
 use crate::table::Table;
@@ -22,7 +22,7 @@ impl<F: Fit> Table<F> {
     ghost use Rattle.inst_table.specs.Names.{id_of, fit_of, numbers_of, home_of, view_of};
 
     // A word of the rows, for the creator, who knows what it is.
-    pub(crate) fn own_word<K: Asked>(&self, seat: &mut Seat, word: usize) -> u64
+    pub(crate) fn own_word<K: RowOperands>(&self, seat: &mut Seat, word: usize) -> u64
         requires table { (seat.old.table_id ≡ id_of self.now) × (word < self.now.words.shared.table_id.words) }
         requires creates { seat.old.me.0.creates ≡ true }
         requires asked { (K.asked ≡ F.asked (fit_of self.now)) × (K.room ≡ (numbers_of self.now).rows) }
@@ -32,11 +32,11 @@ impl<F: Fit> Table<F> {
         ensures sound { AreSound K.asked K.room seat.old.me.0.rows.linked }
         ensures known { KnowsRightKeys seat.old.me.0 seat.old.me.0.rows.linked }
     {
-        self.words.shared.load::<ChecksRows<K>>(seat, word)
+        self.words.shared.load::<ReloadsOwnRow<K>>(seat, word)
     }
 
     // The key of a row, for the creator.
-    fn own_key<K: Asked>(&self, seat: &mut Seat, row: usize) -> [u64; KEY_WORDS]
+    fn own_key<K: RowOperands>(&self, seat: &mut Seat, row: usize) -> [u64; KEY_WORDS]
         requires table { seat.old.table_id ≡ id_of self.now }
         requires creates { seat.old.me.0.creates ≡ true }
         requires asked { (K.asked ≡ F.asked (fit_of self.now)) × (K.room ≡ (numbers_of self.now).rows) }
@@ -53,7 +53,7 @@ impl<F: Fit> Table<F> {
     }
 
     // The keys of all rows, in their order.
-    pub(crate) fn own_keys<K: Asked>(
+    pub(crate) fn own_keys<K: RowOperands>(
         &self,
         alloc: Global,
         seat: &mut Seat,
@@ -75,7 +75,12 @@ impl<F: Fit> Table<F> {
         Ok(keys)
     }
 
-    fn has_own_key<K: Asked>(&self, seat: &mut Seat, row: usize, key: &[u64; KEY_WORDS]) -> bool
+    fn has_own_key<K: RowOperands>(
+        &self,
+        seat: &mut Seat,
+        row: usize,
+        key: &[u64; KEY_WORDS],
+    ) -> bool
         requires table { seat.old.table_id ≡ id_of self.now }
         requires creates { seat.old.me.0.creates ≡ true }
         requires asked { (K.asked ≡ F.asked (fit_of self.now)) × (K.room ≡ (numbers_of self.now).rows) }
@@ -93,7 +98,7 @@ impl<F: Fit> Table<F> {
     }
 
     // The row that has the key, along the chain of its bucket.
-    pub(crate) fn row_of<K: Asked>(
+    pub(crate) fn row_of<K: RowOperands>(
         &self,
         seat: &mut Seat,
         key: &[u64; KEY_WORDS],
@@ -124,7 +129,7 @@ impl<F: Fit> Table<F> {
         requires row { (length seat.old.me.0.rows.linked ≡ row) × (seat.old.me.0.rows.count ≡ row) × (row < (numbers_of self.now).rows) }
         requires at { (length seat.old.me.0.rows.draft ≡ at) × (at < key_words) }
         ensures table { seat.new.table_id ≡ seat.old.table_id }
-        ensures view { seat.new.me ≡ (with_rows (drafted word seat.old.me.0.rows) seat.old.me.0, seat.old.me.1) }
+        ensures view { seat.new.me ≡ (with_rows (rows_with_word word seat.old.me.0.rows) seat.old.me.0, seat.old.me.1) }
     {
         self.words
             .shared
@@ -143,14 +148,14 @@ impl<F: Fit> Table<F> {
         }
     }
 
-    fn store_next<K: Asked>(&self, seat: &mut Seat, row: usize, bucket: usize)
+    fn store_next<K: RowOperands>(&self, seat: &mut Seat, row: usize, bucket: usize)
         requires table { seat.old.table_id ≡ id_of self.now }
         requires creates { (seat.old.me.0.creates ≡ true) × (seat.old.me.0.rows.joined ≡ false) }
         requires asked { (K.asked ≡ F.asked (fit_of self.now)) × (K.room ≡ (numbers_of self.now).rows) }
         requires row { (length seat.old.me.0.rows.linked ≡ row) × (row < (numbers_of self.now).rows) }
         requires draft { (length seat.old.me.0.rows.draft ≡ key_words) × (bucket_of seat.old.me.0.rows.draft ≡ bucket) × (bucket < buckets) }
         ensures table { seat.new.table_id ≡ seat.old.table_id }
-        ensures view { seat.new.me ≡ (with_rows (with_next seat.old.me.0.rows) seat.old.me.0, seat.old.me.1) }
+        ensures view { seat.new.me ≡ (with_rows (rows_with_next seat.old.me.0.rows) seat.old.me.0, seat.old.me.1) }
     {
         let newest = self.own_word::<K>(seat, head_place(bucket));
         self.words
@@ -165,7 +170,7 @@ impl<F: Fit> Table<F> {
         requires draft { (length seat.old.me.0.rows.draft ≡ key_words) × (bucket_of seat.old.me.0.rows.draft ≡ bucket) × (bucket < buckets) }
         requires new { NoneBetween seat.old.me.0.rows.linked seat.old.me.0.rows.draft 0 row × Contains (F.asked (fit_of self.now)) seat.old.me.0.rows.draft }
         ensures table { seat.new.table_id ≡ seat.old.table_id }
-        ensures view { seat.new.me ≡ (with_rows (with_head seat.old.me.0.rows) seat.old.me.0, seat.old.me.1) }
+        ensures view { seat.new.me ≡ (with_rows (rows_with_head seat.old.me.0.rows) seat.old.me.0, seat.old.me.1) }
     {
         self.words
             .shared
@@ -185,14 +190,14 @@ impl<F: Fit> Table<F> {
     }
 
     // Adds a row: first its key, then its next word, then the bucket head, then the count.
-    pub(crate) fn append<K: Asked>(&self, seat: &mut Seat, key: &[u64; KEY_WORDS], count: u32)
+    pub(crate) fn append<K: RowOperands>(&self, seat: &mut Seat, key: &[u64; KEY_WORDS], count: u32)
         requires table { seat.old.table_id ≡ id_of self.now }
         requires creates { (seat.old.me.0.creates ≡ true) × (seat.old.me.0.rows.joined ≡ false) × (seat.old.me.0.rows.draft ≡ []) }
         requires asked { (K.asked ≡ F.asked (fit_of self.now)) × (K.room ≡ (numbers_of self.now).rows) }
         requires row { (length seat.old.me.0.rows.linked ≡ count) × (seat.old.me.0.rows.count ≡ count) × (count < (numbers_of self.now).rows) }
         requires new { NoneBetween seat.old.me.0.rows.linked key.now 0 count × Contains (F.asked (fit_of self.now)) key.now }
         ensures table { seat.new.table_id ≡ seat.old.table_id }
-        ensures view { seat.new.me ≡ (added key.now seat.old.me.0, seat.old.me.1) }
+        ensures view { seat.new.me ≡ (with_row key.now seat.old.me.0, seat.old.me.1) }
     {
         let row = count as usize;
         let bucket = bucket_of(key);
@@ -207,8 +212,8 @@ impl<F: Fit> Table<F> {
         requires table { seat.old.table_id ≡ id_of self.now }
         requires creates { (seat.old.me.0.creates ≡ true) × (seat.old.me.0.rows.count ≡ length seat.old.me.0.rows.linked) }
         ensures table { (seat.new.table_id ≡ seat.old.table_id) × (home_of result ≡ seat.old.table_id) }
-        ensures view { (seat.new.me ≡ seat.old.me) × (view_of result ≡ told_of_rows seat.old.me.0) }
+        ensures view { (seat.new.me ≡ seat.old.me) × (view_of result ≡ row_note seat.old.me.0) }
     {
-        Pass::new(self.words.shared.split_seat::<TellsRows>(seat))
+        Pass::new(self.words.shared.split_seat::<NotesRows>(seat))
     }
 }

@@ -23,7 +23,7 @@ impl<F: Fit> TableRule<u8, View, Setup<F>> for Law<F> {
 
 // What a step is about, which the step can't see: the room of the table, the key that is looked for and the number of
 // rows among which it is.
-pub trait Operands {
+pub trait LookUpOperands {
     ghost room: { ℕ };
 
     ghost key: { List ℕ };
@@ -31,7 +31,7 @@ pub trait Operands {
     ghost below: { ℕ };
 }
 
-impl Operands for Brand {
+impl LookUpOperands for Brand {
     ghost room = { 0 };
 
     ghost key = { [] };
@@ -39,151 +39,153 @@ impl Operands for Brand {
     ghost below = { 0 };
 }
 
-pub struct ReadsCount;
-
-impl Play<u8, View> for ReadsCount {
-    ghost use Rattle.inst_table.specs.Plays.{reads_count};
-
-    ghost then = { reads_count };
-}
-
-pub struct Enters<K> {
+pub struct LoadsCount<K> {
     marker: PhantomData<K>,
 }
 
-impl<K: Operands> Play<u8, View> for Enters<K> {
-    ghost use Rattle.inst_table.specs.Plays.{comes};
+impl<K: LookUpOperands> Play<u8, View> for LoadsCount<K> {
+    ghost use Rattle.inst_table.specs.Plays.{CountLoad};
 
-    ghost then = { comes K.room K.key K.below };
+    ghost then = { CountLoad K.room };
 }
 
-pub struct GoesOn<K> {
+pub struct LoadsHead<K> {
     marker: PhantomData<K>,
 }
 
-impl<K: Operands> Play<u8, View> for GoesOn<K> {
-    ghost use Rattle.inst_table.specs.Plays.{goes_on};
+impl<K: LookUpOperands> Play<u8, View> for LoadsHead<K> {
+    ghost use Rattle.inst_table.specs.Plays.{HeadLoad};
 
-    ghost then = { goes_on K.room K.key K.below };
+    ghost then = { HeadLoad K.room K.key K.below };
 }
 
-pub struct ReadsKeyWord;
+pub struct LoadsNext<K> {
+    marker: PhantomData<K>,
+}
 
-impl Play<u8, View> for ReadsKeyWord {
-    ghost use Rattle.inst_table.specs.Plays.{reads_key_word};
+impl<K: LookUpOperands> Play<u8, View> for LoadsNext<K> {
+    ghost use Rattle.inst_table.specs.Plays.{NextLoad};
 
-    ghost then = { reads_key_word };
+    ghost then = { NextLoad K.room K.key K.below };
+}
+
+pub struct LoadsKeyWord;
+
+impl Play<u8, View> for LoadsKeyWord {
+    ghost use Rattle.inst_table.specs.Plays.{KeyWordLoad};
+
+    ghost then = { KeyWordLoad };
 }
 
 // A new pass knows what the seat knows.
-pub struct Tells;
+pub struct SplitsPass;
 
-impl Split<View> for Tells {
-    ghost use Rattle.inst_table.specs.Views.{told};
+impl Split<View> for SplitsPass {
+    ghost use Rattle.inst_table.specs.Views.{split_view};
 
     ghost left = { λ v. v };
 
-    ghost right = { told };
+    ghost right = { split_view };
 }
 
-pub struct TellsRows;
+pub struct NotesRows;
 
-impl Split<View> for TellsRows {
-    ghost use Rattle.inst_table.specs.Views.{told_of_rows};
+impl Split<View> for NotesRows {
+    ghost use Rattle.inst_table.specs.Views.{row_note};
 
     ghost left = { λ v. v };
 
-    ghost right = { told_of_rows };
+    ghost right = { row_note };
 }
 
-pub struct TellsUnits;
+pub struct NotesUnits;
 
-impl Split<View> for TellsUnits {
-    ghost use Rattle.inst_table.specs.Views.{told_of_units};
+impl Split<View> for NotesUnits {
+    ghost use Rattle.inst_table.specs.Views.{unit_note};
 
     ghost left = { λ v. v };
 
-    ghost right = { told_of_units };
+    ghost right = { unit_note };
 }
 
 // The right to create goes to a seat of its own.
-pub struct HandsOver;
+pub struct SplitsCreator;
 
-impl Split<View> for HandsOver {
-    ghost use Rattle.inst_table.specs.Views.{not_creating, only_creating};
+impl Split<View> for SplitsCreator {
+    ghost use Rattle.inst_table.specs.Views.{without_creation, creation_alone};
 
-    ghost left = { not_creating };
+    ghost left = { without_creation };
 
-    ghost right = { only_creating };
+    ghost right = { creation_alone };
 }
 
-pub struct Both;
+pub struct JoinsPass;
 
-impl Join<View> for Both {
-    ghost use Rattle.inst_table.specs.Views.{joined_with, blank};
+impl Join<View> for JoinsPass {
+    ghost use Rattle.inst_table.specs.Views.{joint_view, blank};
 
-    ghost both = { joined_with };
+    ghost both = { joint_view };
 
     ghost spent = { blank };
 }
 
 // The keys that may be asked, and the room of the table.
-pub trait Asked {
+pub trait RowOperands {
     ghost asked: { List (List ℕ) };
 
     ghost room: { ℕ };
 }
 
-impl Asked for Brand {
+impl RowOperands for Brand {
     ghost asked = { [] };
 
     ghost room = { 0 };
 }
 
-pub struct ChecksRows<K> {
+pub struct ReloadsOwnRow<K> {
     marker: PhantomData<K>,
 }
 
-impl<K: Asked> Play<u8, View> for ChecksRows<K> {
-    ghost use Rattle.inst_table.specs.Plays.{checks_rows};
+impl<K: RowOperands> Play<u8, View> for ReloadsOwnRow<K> {
+    ghost use Rattle.inst_table.specs.Plays.{RowReload};
 
-    ghost then = { checks_rows K.asked K.room };
+    ghost then = { RowReload K.asked K.room };
 }
 
 pub struct StoresKeyWord;
 
 impl Play<u8, View> for StoresKeyWord {
-    ghost use Rattle.inst_table.specs.Plays.{stores_key_word};
+    ghost use Rattle.inst_table.specs.Plays.{KeyWordStore};
 
-    ghost then = { stores_key_word };
+    ghost then = { KeyWordStore };
 }
 
 pub struct StoresNext;
 
 impl Play<u8, View> for StoresNext {
-    ghost use Rattle.inst_table.specs.Plays.{stores_next};
+    ghost use Rattle.inst_table.specs.Plays.{NextStore};
 
-    ghost then = { stores_next };
+    ghost then = { NextStore };
 }
 
 pub struct StoresHead;
 
 impl Play<u8, View> for StoresHead {
-    ghost use Rattle.inst_table.specs.Plays.{stores_head};
+    ghost use Rattle.inst_table.specs.Plays.{HeadStore};
 
-    ghost then = { stores_head };
+    ghost then = { HeadStore };
 }
 
 pub struct StoresCount;
 
 impl Play<u8, View> for StoresCount {
-    ghost use Rattle.inst_table.specs.Plays.{stores_count};
+    ghost use Rattle.inst_table.specs.Plays.{CountStore};
 
-    ghost then = { stores_count };
+    ghost then = { CountStore };
 }
 
 // What the value of `Fit` says, the numbers of the table, a unit, its address word and a place in its record.
-pub trait Meaning<F> {
+pub trait UnitOperands<F> {
     ghost use Rattle.inst_table.specs.declared.setup.Numbers.{Numbers};
 
     ghost fit: { Option F };
@@ -197,7 +199,7 @@ pub trait Meaning<F> {
     ghost at: { ℕ };
 }
 
-impl<F> Meaning<F> for Brand {
+impl<F> UnitOperands<F> for Brand {
     ghost use Rattle.inst_table.specs.declared.setup.Numbers.{Numbers};
 
     ghost fit = { None };
@@ -211,50 +213,50 @@ impl<F> Meaning<F> for Brand {
     ghost at = { 0 };
 }
 
-pub struct ReadsAddress<F, K> {
+pub struct LoadsAddressWord<F, K> {
     marker: PhantomData<(F, K)>,
 }
 
-impl<F, K: Meaning<F>> Play<u8, View> for ReadsAddress<F, K> {
-    ghost use Rattle.inst_table.specs.Plays.{reads_address};
+impl<F, K: UnitOperands<F>> Play<u8, View> for LoadsAddressWord<F, K> {
+    ghost use Rattle.inst_table.specs.Plays.{AddressLoad};
 
-    ghost then = { reads_address K.unit };
+    ghost then = { AddressLoad K.unit };
 }
 
-pub struct ReadsHeap<F, K> {
+pub struct LoadsHeapWord<F, K> {
     marker: PhantomData<(F, K)>,
 }
 
-impl<F: Fit, K: Meaning<F>> Play<u8, View> for ReadsHeap<F, K> {
-    ghost use Rattle.inst_table.specs.Plays.{reads_heap, fits_by};
+impl<F: Fit, K: UnitOperands<F>> Play<u8, View> for LoadsHeapWord<F, K> {
+    ghost use Rattle.inst_table.specs.Plays.{HeapLoad, fits_by};
 
-    ghost then = { reads_heap (fits_by F.fits K.fit) K.numbers K.unit K.word K.at };
+    ghost then = { HeapLoad (fits_by F.fits K.fit) K.numbers K.unit K.word K.at };
 }
 
-pub struct ChecksUnits<F, K> {
+pub struct ReloadsOwnUnit<F, K> {
     marker: PhantomData<(F, K)>,
 }
 
-impl<F: Fit, K: Meaning<F>> Play<u8, View> for ChecksUnits<F, K> {
-    ghost use Rattle.inst_table.specs.Plays.{checks_units, asked_by, fits_by, longest_by};
+impl<F: Fit, K: UnitOperands<F>> Play<u8, View> for ReloadsOwnUnit<F, K> {
+    ghost use Rattle.inst_table.specs.Plays.{UnitReload, asked_by, fits_by, longest_by};
 
-    ghost then = { checks_units (asked_by F.asked K.fit) (fits_by F.fits K.fit) (longest_by F.longest K.fit) K.numbers };
+    ghost then = { UnitReload (asked_by F.asked K.fit) (fits_by F.fits K.fit) (longest_by F.longest K.fit) K.numbers };
 }
 
 pub struct StoresHeapWord;
 
 impl Play<u8, View> for StoresHeapWord {
-    ghost use Rattle.inst_table.specs.Plays.{stores_heap_word};
+    ghost use Rattle.inst_table.specs.Plays.{HeapStore};
 
-    ghost then = { stores_heap_word };
+    ghost then = { HeapStore };
 }
 
 pub struct StoresAddress<F, K> {
     marker: PhantomData<(F, K)>,
 }
 
-impl<F, K: Meaning<F>> Play<u8, View> for StoresAddress<F, K> {
-    ghost use Rattle.inst_table.specs.Plays.{stores_address};
+impl<F, K: UnitOperands<F>> Play<u8, View> for StoresAddress<F, K> {
+    ghost use Rattle.inst_table.specs.Plays.{AddressStore};
 
-    ghost then = { stores_address K.unit };
+    ghost then = { AddressStore K.unit };
 }

@@ -13,11 +13,12 @@ pub trait Fit: Send + Sync + Drop {
     // The greatest length of a record of the unit.
     ghost longest: { Self → Subject → ℕ };
 
-    ghost count: { Self → ℕ };
+    // How many libraries there are.
+    ghost library_count: { Self → ℕ };
 
     /// How many libraries there are. Their units are the numbers below this one.
     fn libraries(&self) -> u32
-        ensures { result ≡ count self.now };
+        ensures { result ≡ library_count self.now };
 
     ghost within: { (fit : Self) (unit : Subject) (words : List ℕ) → fits fit unit words → length words ≤ longest fit unit };
 }
@@ -34,4 +35,5 @@ pub struct Numbers {
 pub struct Setup<F: Fit> {
     pub fit: F,
     pub numbers: Numbers,
+    ghost libraries: { numbers.libraries ≡ F.library_count fit },
 }

@@ -7,7 +7,7 @@ use crate::creator::Creator;
 use crate::layout::width;
 use crate::pass::Pass;
 use crate::publisher::Publisher;
-use crate::rule::{HandsOver, Law, Tells};
+use crate::rule::{Law, SplitsCreator, SplitsPass};
 use crate::setup::{Fit, Numbers, Setup};
 use crate::view::View;
 use std::alloc::{AllocError, Global};
@@ -18,8 +18,8 @@ pub struct Table<F: Fit> {
     pub(crate) words: atomic_table::Table<u8, View, Setup<F>, Law<F>, Global>,
     fit: F,
     pub(crate) numbers: Numbers,
-    ghost kept: { words.shared.key.fit ≡ fit },
-    ghost told: { words.shared.key.numbers ≡ numbers },
+    ghost fit_kept: { words.shared.key.fit ≡ fit },
+    ghost numbers_kept: { words.shared.key.numbers ≡ numbers },
     ghost sized: { words.shared.table_id.words ≡ width numbers },
     ghost small: { (numbers.libraries + numbers.rows < 2 ^ 32) × (numbers.heap < 2 ^ 62) },
 }
@@ -34,8 +34,8 @@ impl<F: Fit> Table<F> {
         rows: u32,
         heap: u64,
     ) -> Result<(Table<F>, Pass, Creator, Publisher), AllocError>
-        requires { (F.count fit + rows < 2 ^ 32) × (heap < 2 ^ 62) }
-        ensures table { IfOk result (λ made. (fit_of made.0 ≡ fit) × (numbers_of made.0 ≡ record { libraries = F.count fit; rows = rows; heap = heap })) }
+        requires { (F.library_count fit + rows < 2 ^ 32) × (heap < 2 ^ 62) }
+        ensures table { IfOk result (λ made. (fit_of made.0 ≡ fit) × (numbers_of made.0 ≡ record { libraries = F.library_count fit; rows = rows; heap = heap })) }
         ensures pass { IfOk result (λ made. (home_of made.1 ≡ id_of made.0) × (view_of made.1 ≡ blank)) }
         ensures creator { IfOk result (λ made. (creator_home_of made.2 ≡ id_of made.0) × (rows_of made.2 ≡ [])) }
         ensures publisher { IfOk result (λ made. (publisher_home_of made.3 ≡ id_of made.0) × (units_of made.3 ≡ [])) }
@@ -50,8 +50,8 @@ impl<F: Fit> Table<F> {
         let setup = Setup { fit, numbers };
         let (words, mut seat) = atomic_table::Table::of_words(alloc, &zeros, &setup)?;
         let Setup { fit, numbers } = setup;
-        let creator = words.shared.split_seat::<HandsOver>(&mut seat);
-        let pass = words.shared.split_seat::<Tells>(&mut seat);
+        let creator = words.shared.split_seat::<SplitsCreator>(&mut seat);
+        let pass = words.shared.split_seat::<SplitsPass>(&mut seat);
         Ok((
             Table {
                 words,

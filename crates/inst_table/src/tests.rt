@@ -1,4 +1,4 @@
-ghost use Rattle.std.specs.Prelude.{◌≡◌, ℕ, ◌+◌, ◌^◌, ◌<◌, ◌≤◌, ◌⊎◌, List, true, length, vec_len, Contains, IsTrue, IfOk, IfSome};
+ghost use Rattle.std.specs.Prelude.{◌≡◌, ℕ, ◌+◌, ◌^◌, ◌<◌, ◌≤◌, ◌⊎◌, List, [], ◌∷◌, true, length, vec_len, Contains, IsTrue, IfOk, IfSome};
 ghost use Rattle.inst_table.specs.Bucket.{key_words};
 ghost use Rattle.inst_table.specs.Subject.{Subject};
 ghost use Rattle.inst_table.specs.Units.{IsRecord};
@@ -32,7 +32,7 @@ impl Fit for Keys {
 
     ghost longest = { λ fit unit. 70 };
 
-    ghost count = { λ fit. 0 };
+    ghost library_count = { λ fit. 0 };
 
     fn libraries(&self) -> u32 {
         0
@@ -90,7 +90,7 @@ impl Table<Keys> {
     }
 
     // The row of a key, with a pass that knows it.
-    fn added(&self, creator: &mut Creator, key: &[u64; KEY_WORDS]) -> Result<(u32, Pass), u32>
+    fn add_row(&self, creator: &mut Creator, key: &[u64; KEY_WORDS]) -> Result<(u32, Pass), u32>
         requires table { creator_home_of creator.old ≡ id_of self.now }
         requires asked { Contains (fit_of self.now).keys.items key.now }
         ensures table { creator_home_of creator.new ≡ creator_home_of creator.old }
@@ -104,7 +104,7 @@ impl Table<Keys> {
     }
 
     fn put(&self, publisher: &mut Publisher, row: u32, note: Pass, words: &[u32]) -> Published
-        requires table { (publisher_home_of publisher.old ≡ id_of self.now) × (home_of note ≡ id_of self.now) × ((numbers_of self.now).libraries ≡ 0) }
+        requires table { (publisher_home_of publisher.old ≡ id_of self.now) × (home_of note ≡ id_of self.now) }
         requires row { HasKey (view_of note) row }
         requires words { IsRecord words.now × (length words.now ≤ 70) }
         ensures table { publisher_home_of publisher.new ≡ publisher_home_of publisher.old }
@@ -114,8 +114,12 @@ impl Table<Keys> {
     }
 
     // The row of a key and the address of its unit.
-    fn seen(&self, pass: &mut Pass, key: &[u64; KEY_WORDS]) -> Result<(u32, Option<Address>), u32>
-        requires table { (home_of pass.old ≡ id_of self.now) × ((numbers_of self.now).libraries ≡ 0) }
+    fn look_up(
+        &self,
+        pass: &mut Pass,
+        key: &[u64; KEY_WORDS],
+    ) -> Result<(u32, Option<Address>), u32>
+        requires table { home_of pass.old ≡ id_of self.now }
         ensures table { home_of pass.new ≡ home_of pass.old }
         ensures row { IfOk result (λ r. HasKey (view_of pass.new) r.0) }
         ensures address { IfOk result (λ r. IfSome r.1 (λ a. KnowsAddress (view_of pass.new) a.unit a.word)) }
@@ -128,7 +132,7 @@ impl Table<Keys> {
 
     // Whether nothing that is read goes back, in so many rounds.
     fn is_watched(&self, mut pass: Pass, rounds: u32) -> bool
-        requires table { (home_of pass ≡ id_of self.now) × ((numbers_of self.now).libraries ≡ 0) }
+        requires table { home_of pass ≡ id_of self.now }
         requires keys { vec_len (fit_of self.now).keys ≡ 3 }
     {
         let mut rows = [None; 3];
@@ -136,7 +140,7 @@ impl Table<Keys> {
         for _ in 0..rounds {
             for at in 0..3 {
                 let before: (Option<u32>, Option<Address>) = (rows[at], addresses[at]);
-                match (before, self.seen(&mut pass, &self.key_of(at))) {
+                match (before, self.look_up(&mut pass, &self.key_of(at))) {
                     ((None, _), Err(_)) => {}
                     ((Some(_), _), Err(_)) => return false,
                     ((old_row, old_address), Ok((row, address))) => {
@@ -160,7 +164,7 @@ impl Table<Keys> {
         ensures { creator_home_of result ≡ id_of self.now }
     {
         for at in 0..3 {
-            let _ = self.added(&mut creator, &self.key_of(at));
+            let _ = self.add_row(&mut creator, &self.key_of(at));
         }
         creator
     }
@@ -173,14 +177,14 @@ impl Table<Keys> {
         words: &[u32],
         tries: u32,
     ) -> Publisher
-        requires table { (publisher_home_of publisher ≡ id_of self.now) × (home_of pass ≡ id_of self.now) × ((numbers_of self.now).libraries ≡ 0) }
+        requires table { (publisher_home_of publisher ≡ id_of self.now) × (home_of pass ≡ id_of self.now) }
         requires keys { vec_len (fit_of self.now).keys ≡ 3 }
         requires words { IsRecord words.now × (length words.now ≤ 70) }
         ensures { publisher_home_of result ≡ id_of self.now }
     {
         for at in 0..3 {
             for _ in 0..tries {
-                if let Ok((row, _)) = self.seen(&mut pass, &self.key_of(at)) {
+                if let Ok((row, _)) = self.look_up(&mut pass, &self.key_of(at)) {
                     let note = pass.split(self);
                     self.put(&mut publisher, row, note, words);
                     break;
@@ -195,7 +199,7 @@ type Parts = (Table<Keys>, Pass, Creator, Publisher);
 
 fn make_parts(alloc: Global, rows: u32, heap: u64) -> Result<Parts, AllocError>
     requires { heap < 2 ^ 30 }
-    ensures table { IfOk result (λ p. ((numbers_of p.0).libraries ≡ 0) × (vec_len (fit_of p.0).keys ≡ 3)) }
+    ensures table { IfOk result (λ p. vec_len (fit_of p.0).keys ≡ 3) }
     ensures seats { IfOk result (λ p. (home_of p.1 ≡ id_of p.0) × (creator_home_of p.2 ≡ id_of p.0) × (publisher_home_of p.3 ≡ id_of p.0)) }
 {
     Table::make(alloc, three_keys(alloc)?, rows, heap)
@@ -208,11 +212,11 @@ fn rows_and_heap_are_full_exactly_at_their_ends(rt: HostRuntime) -> Result<(), F
     assert!(rt; fits);
     let (table, _pass, mut creator, mut publisher) = make_parts(rt.alloc(), 1, 69)?;
     let (first, second) = (table.key_of(0), table.key_of(1));
-    let Ok((row, note)) = table.added(&mut creator, &first) else {
+    let Ok((row, note)) = table.add_row(&mut creator, &first) else {
         panic!(rt; "no room")
     };
     assert_eq!(rt; row, 0);
-    assert!(rt; matches!(table.added(&mut creator, &second), Err(1)));
+    assert!(rt; matches!(table.add_row(&mut creator, &second), Err(1)));
     let answer = table.put(&mut publisher, row, note, &words);
     assert!(rt; matches!(answer, Published::HeapFull(0)));
     Ok(())
@@ -225,7 +229,7 @@ fn one_record_is_accepted(rt: HostRuntime) -> Result<(), Fail> {
     assert!(rt; fits);
     let (table, mut pass, mut creator, mut publisher) = make_parts(rt.alloc(), 1, 70)?;
     let key = table.key_of(0);
-    let Ok((row, note)) = table.added(&mut creator, &key) else {
+    let Ok((row, note)) = table.add_row(&mut creator, &key) else {
         panic!(rt; "no room")
     };
     let Published::Accepted { address, note } = table.put(&mut publisher, row, note, &words) else {
@@ -233,7 +237,7 @@ fn one_record_is_accepted(rt: HostRuntime) -> Result<(), Fail> {
     };
     assert_eq!(rt; address, Address { unit: 0, word: 1 });
     pass.join(&table, note);
-    let Ok((row, note)) = table.added(&mut creator, &key) else {
+    let Ok((row, note)) = table.add_row(&mut creator, &key) else {
         panic!(rt; "no room")
     };
     let Published::Already { address, note: _ } = table.put(&mut publisher, row, note, &words)
@@ -241,7 +245,7 @@ fn one_record_is_accepted(rt: HostRuntime) -> Result<(), Fail> {
         panic!(rt; "accepted twice")
     };
     assert_eq!(rt; address, Address { unit: 0, word: 1 });
-    let Ok((row, Some(address))) = table.seen(&mut pass, &key) else {
+    let Ok((row, Some(address))) = table.look_up(&mut pass, &key) else {
         panic!(rt; "not seen")
     };
     let fetched = pass.fetch(rt.alloc(), &table, address)?;
@@ -265,8 +269,8 @@ fn a_key_is_found_along_the_chain_of_its_bucket(rt: HostRuntime) -> Result<(), F
     let (table, mut pass, mut creator, _publisher) = make_parts(rt.alloc(), 3, 0)?;
     let (first, second, third) = (table.key_of(0), table.key_of(1), table.key_of(2));
     let (one, two) = (
-        table.added(&mut creator, &first).is_ok(),
-        table.added(&mut creator, &second).is_ok(),
+        table.add_row(&mut creator, &first).is_ok(),
+        table.add_row(&mut creator, &second).is_ok(),
     );
     assert!(rt; one && two);
     let found = pass.find(&table, &second);
@@ -280,7 +284,7 @@ fn a_key_is_found_along_the_chain_of_its_bucket(rt: HostRuntime) -> Result<(), F
 
 // Two readers, in two threads.
 fn two_watch<R: Threads>(rt: &R, table: &Table<Keys>, one: Pass, other: Pass, rounds: u32) -> bool
-    requires table { ((numbers_of table.now).libraries ≡ 0) × (vec_len (fit_of table.now).keys ≡ 3) }
+    requires table { vec_len (fit_of table.now).keys ≡ 3 }
     requires passes { (home_of one ≡ id_of table.now) × (home_of other ≡ id_of table.now) }
 {
     let (a, b) = join(
@@ -300,7 +304,7 @@ fn two_write<R: Threads>(
     pass: Pass,
     words: &[u32],
 ) -> (Creator, Publisher)
-    requires table { ((numbers_of table.now).libraries ≡ 0) × (vec_len (fit_of table.now).keys ≡ 3) }
+    requires table { vec_len (fit_of table.now).keys ≡ 3 }
     requires seats { (creator_home_of creator ≡ id_of table.now) × (publisher_home_of publisher ≡ id_of table.now) × (home_of pass ≡ id_of table.now) }
     requires words { IsRecord words.now × (length words.now ≤ 70) }
     ensures { (creator_home_of result.0 ≡ id_of table.now) × (publisher_home_of result.1 ≡ id_of table.now) }
@@ -323,7 +327,7 @@ fn four_work<R: Threads + Sync>(
     pass: Pass,
     words: &[u32],
 ) -> (bool, (Creator, Publisher))
-    requires table { ((numbers_of table.now).libraries ≡ 0) × (vec_len (fit_of table.now).keys ≡ 3) }
+    requires table { vec_len (fit_of table.now).keys ≡ 3 }
     requires readers { (home_of one ≡ id_of table.now) × (home_of other ≡ id_of table.now) }
     requires seats { (creator_home_of creator ≡ id_of table.now) × (publisher_home_of publisher ≡ id_of table.now) × (home_of pass ≡ id_of table.now) }
     requires words { IsRecord words.now × (length words.now ≤ 70) }
@@ -348,7 +352,7 @@ fn six_work<R: Threads + Sync>(
     pass: Pass,
     words: &[u32],
 ) -> (bool, (bool, (Creator, Publisher)))
-    requires table { ((numbers_of table.now).libraries ≡ 0) × (vec_len (fit_of table.now).keys ≡ 3) }
+    requires table { vec_len (fit_of table.now).keys ≡ 3 }
     requires first { (home_of first.0 ≡ id_of table.now) × (home_of first.1 ≡ id_of table.now) }
     requires second { (home_of three ≡ id_of table.now) × (home_of four ≡ id_of table.now) }
     requires seats { (creator_home_of creator ≡ id_of table.now) × (publisher_home_of publisher ≡ id_of table.now) × (home_of pass ≡ id_of table.now) }
@@ -360,7 +364,7 @@ fn six_work<R: Threads + Sync>(
         rt,
         move || two_watch(rt, table, one, other, ROUNDS),
         move || -> (bool, (Creator, Publisher))
-            requires table { ((numbers_of table.now).libraries ≡ 0) × (vec_len (fit_of table.now).keys ≡ 3) }
+            requires table { vec_len (fit_of table.now).keys ≡ 3 }
             requires readers { (home_of three ≡ id_of table.now) × (home_of four ≡ id_of table.now) }
             requires seats { (creator_home_of creator ≡ id_of table.now) × (publisher_home_of publisher ≡ id_of table.now) × (home_of pass ≡ id_of table.now) }
             requires words { IsRecord words.now × (length words.now ≤ 70) }
@@ -391,5 +395,74 @@ fn nothing_that_is_read_goes_back(rt: HostRuntime) -> Result<(), Fail> {
         panic!(rt; "no memory")
     };
     assert!(rt; closed.rows.len() == 3 && closed.units.len() == 3);
+    Ok(())
+}
+
+// One library and one key, and any record up to a length.
+#[derive(Drop)]
+struct OneLibrary {
+    key: [u64; KEY_WORDS],
+}
+
+impl Fit for OneLibrary {
+    ghost asked = { λ fit. fit.key ∷ [] };
+
+    ghost fits = { λ fit unit words. length words ≤ 70 };
+
+    ghost longest = { λ fit unit. 70 };
+
+    ghost library_count = { λ fit. 1 };
+
+    fn libraries(&self) -> u32 {
+        1
+    }
+
+    ghost within = { λ fit unit words h. h };
+}
+
+impl Table<OneLibrary> {
+    fn create_row(&self, creator: &mut Creator) -> Created
+        requires { creator_home_of creator.old ≡ id_of self.now }
+        ensures { creator_home_of creator.new ≡ creator_home_of creator.old }
+    {
+        let key = self.fit().key;
+        creator.create(self, &key)
+    }
+
+    fn build_library(&self, publisher: &mut Publisher, by: Pass, words: &[u32]) -> Published
+        requires table { (publisher_home_of publisher.old ≡ id_of self.now) × (home_of by ≡ id_of self.now) }
+        requires words { IsRecord words.now × (length words.now ≤ 70) }
+        ensures { publisher_home_of publisher.new ≡ publisher_home_of publisher.old }
+    {
+        publisher.publish(self, 0, by, words)
+    }
+}
+
+#[test]
+fn a_row_that_was_never_built_has_an_empty_unit(rt: HostRuntime) -> Result<(), Fail> {
+    let words = record(rt.alloc(), 3)?;
+    let fits = is_record(&words);
+    assert!(rt; fits);
+    let fit = OneLibrary { key: key(0, 7) };
+    let (table, mut pass, mut creator, mut publisher) = Table::make(rt.alloc(), fit, 1, 70)?;
+    let created = table.create_row(&mut creator);
+    assert!(rt; matches!(created, Created::New { row: 0, note: _ }));
+    let by = pass.split(&table);
+    let published = table.build_library(&mut publisher, by, &words);
+    assert!(rt;
+        matches!(
+            published,
+            Published::Accepted {
+                address: Address { unit: 0, word: 1 },
+                note: _
+            }
+        )
+    );
+    let Ok(closed) = close(rt.alloc(), table, creator, publisher, pass) else {
+        panic!(rt; "no memory")
+    };
+    assert!(rt; closed.rows.len() == 1 && closed.units.len() == 1);
+    assert!(rt; closed.rows.get(0).is_some_and(|row| row[0] == 7));
+    assert!(rt; closed.units.get(0).is_some_and(|unit| unit.is_none()));
     Ok(())
 }

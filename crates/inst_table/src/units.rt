@@ -1,17 +1,17 @@
 // The steps on addresses and on the heap.
 ghost use Rattle.std.specs.Prelude.{◌≡◌, ◌≢◌, ℕ, suc, ◌+◌, ◌-◌, ◌^◌, ◌≤◌, ◌<◌, [], ◌∷◌, ◌++◌, Some, true, false, List, length, Contains, IfOk};
-ghost use Rattle.inst_table.specs.Views.{heard, learnt, with_units, laid, with_address, told_of_units, joined_with, published};
+ghost use Rattle.inst_table.specs.Views.{with_address_load, with_known, with_units, units_with_word, units_with_address, unit_note, joint_view, with_unit};
 ghost use Rattle.inst_table.specs.Lawful.{IsOneWay};
 ghost use Rattle.inst_table.specs.Units.{IsRecord, heap_of, address_of};
 ghost use Rattle.inst_table.specs.Passes.{KnowsAddress, KnowsRecord, IsKnownUnit, IsInRecord, FitsKnown, MayPublish, LearnsWords};
 ghost use Rattle.inst_table.specs.Plays.{IsOfUnits, AreSoundUnits};
-ghost use Rattle.inst_table.specs.declared.view.Known.TheVariants.{HeapWord};
+ghost use Rattle.inst_table.specs.declared.view.KnownWord.TheVariants.{HeapWord};
 
 use crate::layout::{address_place, heap_place, record_place};
 use crate::pass::{Address, Pass};
 use crate::rule::{
-    Both, ChecksUnits, Meaning, ReadsAddress, ReadsHeap, Seat, StoresAddress, StoresHeapWord,
-    TellsUnits,
+    JoinsPass, LoadsAddressWord, LoadsHeapWord, NotesUnits, ReloadsOwnUnit, Seat, StoresAddress,
+    StoresHeapWord, UnitOperands,
 };
 use crate::setup::Fit;
 use crate::table::Table;
@@ -21,31 +21,31 @@ use std::marker::Brand;
 impl<F: Fit> Table<F> {
     ghost use Rattle.inst_table.specs.Names.{id_of, fit_of, numbers_of, home_of, view_of};
 
-    pub(crate) fn read_address<K: Meaning<F>>(&self, seat: &mut Seat, unit: u32) -> u64
+    pub(crate) fn read_address<K: UnitOperands<F>>(&self, seat: &mut Seat, unit: u32) -> u64
         requires table { seat.old.table_id ≡ id_of self.now }
         requires unit { K.unit ≡ unit }
         requires known { IsKnownUnit (numbers_of self.now) seat.old.me.0 unit }
         ensures table { seat.new.table_id ≡ seat.old.table_id }
-        ensures view { seat.new.me ≡ (heard unit result seat.old.me.0, seat.old.me.1) }
-        ensures same { (word : ℕ) → KnowsAddress seat.old.me.0 unit word → result ≡ word }
-        ensures one_way { IsOneWay seat.new.me.0.mine }
+        ensures view { seat.new.me ≡ (with_address_load unit result seat.old.me.0, seat.old.me.1) }
+        ensures same { (word : ℕ) → KnowsAddress seat.old.me.0 unit word → (result ≡ word) × (word ≢ 0) }
+        ensures one_way { IsOneWay seat.new.me.0.address_loads }
     {
         self.words
             .shared
-            .load::<ReadsAddress<F, K>>(seat, address_place(&self.numbers, unit))
+            .load::<LoadsAddressWord<F, K>>(seat, address_place(&self.numbers, unit))
     }
 
     // A word of the record at an address word.
-    fn read_record<K: Meaning<F>>(&self, seat: &mut Seat, address: Address, at: u64) -> u32
+    fn read_record<K: UnitOperands<F>>(&self, seat: &mut Seat, address: Address, at: u64) -> u32
         requires table { seat.old.table_id ≡ id_of self.now }
         requires operands { (K.fit ≡ Some (fit_of self.now)) × (K.numbers ≡ numbers_of self.now) × (K.unit ≡ address.unit) × (K.word ≡ address.word) × (K.at ≡ at) }
         requires known { KnowsAddress seat.old.me.0 address.unit address.word × IsInRecord seat.old.me.0 address.word at }
         ensures table { seat.new.table_id ≡ seat.old.table_id }
-        ensures view { seat.new.me ≡ (learnt (HeapWord (address.word - 1 + at) result) seat.old.me.0, seat.old.me.1) }
+        ensures view { seat.new.me ≡ (with_known (HeapWord (address.word - 1 + at) result) seat.old.me.0, seat.old.me.1) }
         ensures fits { (words : List ℕ) → KnowsRecord seat.new.me.0 address.word words → IsRecord words → FitsKnown (F.fits (fit_of self.now)) (numbers_of self.now) seat.new.me.0 address.unit words }
     {
         let place = record_place(&self.numbers, address.word, at);
-        self.words.shared.load::<ReadsHeap<F, K>>(seat, place) as u32
+        self.words.shared.load::<LoadsHeapWord<F, K>>(seat, place) as u32
     }
 
     pub(crate) fn read_whole(
@@ -74,7 +74,7 @@ impl<F: Fit> Table<F> {
     }
 
     // A word of the units, for the publisher, who knows what it is.
-    pub(crate) fn own_unit_word<K: Meaning<F>>(&self, seat: &mut Seat, word: usize) -> u64
+    pub(crate) fn own_unit_word<K: UnitOperands<F>>(&self, seat: &mut Seat, word: usize) -> u64
         requires table { (seat.old.table_id ≡ id_of self.now) × (word < self.now.words.shared.table_id.words) }
         requires publishes { seat.old.me.0.publishes ≡ true }
         requires operands { (K.fit ≡ Some (fit_of self.now)) × (K.numbers ≡ numbers_of self.now) }
@@ -83,10 +83,10 @@ impl<F: Fit> Table<F> {
         ensures word { IsOfUnits (numbers_of self.now) seat.old.me.0.units word result }
         ensures sound { AreSoundUnits (F.asked (fit_of self.now)) (F.fits (fit_of self.now)) (F.longest (fit_of self.now)) (numbers_of self.now) seat.old.me.0 }
     {
-        self.words.shared.load::<ChecksUnits<F, K>>(seat, word)
+        self.words.shared.load::<ReloadsOwnUnit<F, K>>(seat, word)
     }
 
-    pub(crate) fn own_address<K: Meaning<F>>(&self, seat: &mut Seat, unit: u32) -> u64
+    pub(crate) fn own_address<K: UnitOperands<F>>(&self, seat: &mut Seat, unit: u32) -> u64
         requires table { seat.old.table_id ≡ id_of self.now }
         requires publishes { seat.old.me.0.publishes ≡ true }
         requires operands { (K.fit ≡ Some (fit_of self.now)) × (K.numbers ≡ numbers_of self.now) }
@@ -103,7 +103,7 @@ impl<F: Fit> Table<F> {
         requires publishes { seat.old.me.0.publishes ≡ true }
         requires room { (at ≡ length (heap_of seat.old.me.0.units.built) + length seat.old.me.0.units.partly) × (at < (numbers_of self.now).heap) }
         ensures table { seat.new.table_id ≡ seat.old.table_id }
-        ensures view { seat.new.me ≡ (with_units (laid word seat.old.me.0.units) seat.old.me.0, seat.old.me.1) }
+        ensures view { seat.new.me ≡ (with_units (units_with_word word seat.old.me.0.units) seat.old.me.0, seat.old.me.1) }
     {
         let place = heap_place(&self.numbers, at);
         self.words
@@ -123,14 +123,14 @@ impl<F: Fit> Table<F> {
         }
     }
 
-    fn store_address<K: Meaning<F>>(&self, seat: &mut Seat, unit: u32, word: u64)
+    fn store_address<K: UnitOperands<F>>(&self, seat: &mut Seat, unit: u32, word: u64)
         requires table { seat.old.table_id ≡ id_of self.now }
         requires publishes { seat.old.me.0.publishes ≡ true }
         requires unit { (K.unit ≡ unit) × (address_of seat.old.me.0.units.built unit ≡ 0) }
         requires record { IsRecord seat.old.me.0.units.partly × MayPublish (F.fits (fit_of self.now)) (numbers_of self.now) seat.old.me.0 unit seat.old.me.0.units.partly }
         requires word { word ≡ 1 + length (heap_of seat.old.me.0.units.built) }
         ensures table { seat.new.table_id ≡ seat.old.table_id }
-        ensures view { seat.new.me ≡ (with_units (with_address unit seat.old.me.0.units) seat.old.me.0, seat.old.me.1) }
+        ensures view { seat.new.me ≡ (with_units (units_with_address unit seat.old.me.0.units) seat.old.me.0, seat.old.me.1) }
     {
         let place = address_place(&self.numbers, unit);
         self.words
@@ -139,14 +139,20 @@ impl<F: Fit> Table<F> {
     }
 
     // Publishes a record: first its words, then the address word.
-    pub(crate) fn accept<K: Meaning<F>>(&self, seat: &mut Seat, unit: u32, end: u64, words: &[u32])
+    pub(crate) fn accept<K: UnitOperands<F>>(
+        &self,
+        seat: &mut Seat,
+        unit: u32,
+        end: u64,
+        words: &[u32],
+    )
         requires table { seat.old.table_id ≡ id_of self.now }
         requires publishes { (seat.old.me.0.publishes ≡ true) × (seat.old.me.0.units.partly ≡ []) }
         requires unit { (K.unit ≡ unit) × (address_of seat.old.me.0.units.built unit ≡ 0) }
         requires room { (end ≡ length (heap_of seat.old.me.0.units.built)) × (end + length words.now ≤ (numbers_of self.now).heap) }
         requires record { IsRecord words.now × MayPublish (F.fits (fit_of self.now)) (numbers_of self.now) seat.old.me.0 unit words.now }
         ensures table { seat.new.table_id ≡ seat.old.table_id }
-        ensures view { seat.new.me ≡ (published unit words.now seat.old.me.0, seat.old.me.1) }
+        ensures view { seat.new.me ≡ (with_unit unit words.now seat.old.me.0, seat.old.me.1) }
     {
         self.store_record(seat, end, words);
         self.store_address::<K>(seat, unit, end + 1);
@@ -155,10 +161,10 @@ impl<F: Fit> Table<F> {
     pub(crate) fn take_in(&self, seat: &mut Seat, by: Pass)
         requires table { (seat.old.table_id ≡ id_of self.now) × (home_of by ≡ id_of self.now) }
         ensures table { seat.new.table_id ≡ seat.old.table_id }
-        ensures view { seat.new.me ≡ (joined_with seat.old.me.0 (view_of by), seat.old.me.1) }
+        ensures view { seat.new.me ≡ (joint_view seat.old.me.0 (view_of by), seat.old.me.1) }
     {
         let Pass { seat: other } = by;
-        self.words.shared.join_seat::<Both>(seat, other);
+        self.words.shared.join_seat::<JoinsPass>(seat, other);
     }
 
     // A pass that knows all addresses.
@@ -166,8 +172,8 @@ impl<F: Fit> Table<F> {
         requires table { seat.old.table_id ≡ id_of self.now }
         requires publishes { seat.old.me.0.publishes ≡ true }
         ensures table { (seat.new.table_id ≡ seat.old.table_id) × (home_of result ≡ seat.old.table_id) }
-        ensures view { (seat.new.me ≡ seat.old.me) × (view_of result ≡ told_of_units seat.old.me.0) }
+        ensures view { (seat.new.me ≡ seat.old.me) × (view_of result ≡ unit_note seat.old.me.0) }
     {
-        Pass::new(self.words.shared.split_seat::<TellsUnits>(seat))
+        Pass::new(self.words.shared.split_seat::<NotesUnits>(seat))
     }
 }

@@ -2,7 +2,7 @@
 use std::collections::LinkedList;
 
 /// A word that is known for good.
-pub enum Known {
+pub enum KnownWord {
     /// Of a key: the row, the place in the key, and the word.
     KeyWord(u64, u64, u64),
     /// An address word that isn't 0: the unit and the word.
@@ -48,14 +48,14 @@ pub struct View {
     /// The count that was read last, and how many times one was read.
     pub seen: u64,
     pub looks: u64,
-    pub known: LinkedList<Known>,
+    pub known: LinkedList<KnownWord>,
     /// The keys that aren't among the rows below a number.
     pub absent: LinkedList<(LinkedList<u64>, u64)>,
     pub walk: Option<Walk>,
     /// The rows that look-ups came to, each with its bucket.
     pub walked: LinkedList<(u64, u64)>,
     /// The unit and the word of each load of an address word, in order.
-    pub mine: LinkedList<(u64, u64)>,
+    pub address_loads: LinkedList<(u64, u64)>,
     pub creates: bool,
     pub rows: Rows,
     pub publishes: bool,

@@ -6,7 +6,7 @@ pub returns-clause-new : goal.returns-clause-new
 returns-clause-new g c = IfNew-map c.create_in.result _ _ (λ n p. (not_among _ _ n p.1 p.0, p.1, p.2, p.3 ∙ sym (add-new _ _ n p.1 p.0))) c.create_in.ensures.new
 
 pub returns-clause-old : goal.returns-clause-old
-returns-clause-old g c = IfOld-map c.create_in.result _ _ (λ n p. (p.0, p.1, p.2 ∙ sym (add-old _ _ n p.0 p.1))) c.create_in.ensures.old
+returns-clause-old g c = IfOld-map c.create_in.result _ _ (λ n p. (p.0, p.1, p.2, p.3 ∙ sym (add-old _ _ n p.0 p.2))) c.create_in.ensures.old
 
 pub returns-clause-full : goal.returns-clause-full
 returns-clause-full g c = IfFull-map c.create_in.result _ _ (λ n p. (not_among _ _ n p.1 p.0, p.1, p.2, p.3)) c.create_in.ensures.full

@@ -1,5 +1,5 @@
 use Rattle.std.proofs.Common.{arith}
-use Rattle.inst_table.proofs.Tellings.{takes_in, knows_both}
+use Rattle.inst_table.proofs.Sharing.{takes_in, knows_both}
 use Rattle.inst_table.proofs.pass.Pass.join.Goals as goal
 
 pub join_seat-requires : goal.join_seat-requires

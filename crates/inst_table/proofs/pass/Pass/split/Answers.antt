@@ -1,5 +1,5 @@
 use Rattle.std.proofs.Common.{arith}
-use Rattle.inst_table.proofs.Tellings.{tells}
+use Rattle.inst_table.proofs.Sharing.{tells}
 use Rattle.inst_table.proofs.pass.Pass.split.Goals as goal
 
 pub split_seat-requires : goal.split_seat-requires

@@ -1,4 +1,4 @@
-use Rattle.std.proofs.Common.{ℕ, ◌∙◌, ap, arith, refl, sym, subst, length}
+use Rattle.std.proofs.Common.{◌≡◌, ℕ, ◌+◌, ◌∙◌, ap, arith, refl, sym, subst, length}
 use Rattle.atomic_table.specs.Table.{Me}
 use Rattle.inst_table.specs.Units.{heap_of, address_of}
 use Rattle.inst_table.specs.Passes.{MayPublish}
@@ -24,14 +24,14 @@ returns-then-word-ne0-clause-note g c =
     let may = may_still (g.F.Fit.fits c.args.table.now.words.shared.key.fit) c.args.table.now.words.shared.key.numbers c.args.self.now.seat.me c.take_in.new.seat.me c.args.by.seat.me.0 c.args.unit c.args.words.now c.take_in.ensures.view c.requires.record.1 in
     let word = own.word (own.sound.inside c.args.unit (is_known (g.F.Fit.fits c.args.table.now.words.shared.key.fit) c.args.table.now.words.shared.key.numbers c.take_in.new.seat.me.0 c.args.unit c.args.words.now may)) in
     let n = note_of_same c.args.by.seat.me.0 c.take_in.new.seat.me c.own_address-word.new.seat.me c.note_of_units-note.result.seat.me.0 c.args.unit c.own_address-word.result own.view t.knows c.note_of_units-note.ensures.view.1 (sym word) c.if-word-ne0.true in
-    (c.note_of_units-note.ensures.table.1 ∙ own.table ∙ c.take_in.ensures.table ∙ c.requires.table.0, n.0, n.1)
+    (c.note_of_units-note.ensures.table.1 ∙ own.table ∙ c.take_in.ensures.table ∙ c.requires.table.0, n.0, n.1, c.if-word-ne0.true)
 
 pub returns-then-after-table-clause-heap_full : goal.returns-then-after-table-clause-heap_full
 returns-then-after-table-clause-heap_full g c =
     let t = taken c.args.self.now.seat.me c.take_in.new.seat.me c.args.by.seat.me.0 c.take_in.ensures.view in let own = c.own_address-word.ensures in
     let may = may_still (g.F.Fit.fits c.args.table.now.words.shared.key.fit) c.args.table.now.words.shared.key.numbers c.args.self.now.seat.me c.take_in.new.seat.me c.args.by.seat.me.0 c.args.unit c.args.words.now c.take_in.ensures.view c.requires.record.1 in
     let word = own.word (own.sound.inside c.args.unit (is_known (g.F.Fit.fits c.args.table.now.words.shared.key.fit) c.args.table.now.words.shared.key.numbers c.take_in.new.seat.me.0 c.args.unit c.args.words.now may)) in
-    let room = ap (λ (n : Numbers). n.heap) c.args.table.now.told in (
+    let room = ap (λ (n : Numbers). n.heap) c.args.table.now.numbers_kept in (
       sym (sym c.if-word-ne0.false ∙ word ∙ ap (λ (y : Units). address_of y.built c.args.unit) t.units),
       sym c.args.self.now.rests.1,
       omega (arith, c.if-after-table.true),
@@ -43,7 +43,7 @@ returns-then-after-table-clause-never_full g c fit =
     let t = taken c.args.self.now.seat.me c.take_in.new.seat.me c.args.by.seat.me.0 c.take_in.ensures.view in let own = c.own_address-word.ensures in
     let may = may_still (g.F.Fit.fits c.args.table.now.words.shared.key.fit) c.args.table.now.words.shared.key.numbers c.args.self.now.seat.me c.take_in.new.seat.me c.args.by.seat.me.0 c.args.unit c.args.words.now c.take_in.ensures.view c.requires.record.1 in
     let word = own.word (own.sound.inside c.args.unit (is_known (g.F.Fit.fits c.args.table.now.words.shared.key.fit) c.args.table.now.words.shared.key.numbers c.take_in.new.seat.me.0 c.args.unit c.args.words.now may)) in
-    let room = ap (λ (n : Numbers). n.heap) c.args.table.now.told in
+    let room = ap (λ (n : Numbers). n.heap) c.args.table.now.numbers_kept in
     let left = own.sound.leaves_room fit c.args.unit c.args.words.now may (sym word ∙ c.if-word-ne0.false) in
     let same = ap (λ (y : Units). length (heap_of y.built)) t.units in
     omega (arith, c.if-after-table.true, c.args.self.now.rests.1)
@@ -75,7 +75,7 @@ returns-clause-accepted g c =
     let t = taken c.args.self.now.seat.me c.take_in.new.seat.me c.args.by.seat.me.0 c.take_in.ensures.view in let own = c.own_address-word.ensures in
     let may = may_still (g.F.Fit.fits c.args.table.now.words.shared.key.fit) c.args.table.now.words.shared.key.numbers c.args.self.now.seat.me c.take_in.new.seat.me c.args.by.seat.me.0 c.args.unit c.args.words.now c.take_in.ensures.view c.requires.record.1 in
     let word = own.word (own.sound.inside c.args.unit (is_known (g.F.Fit.fits c.args.table.now.words.shared.key.fit) c.args.table.now.words.shared.key.numbers c.take_in.new.seat.me.0 c.args.unit c.args.words.now may)) in
-    let room = ap (λ (n : Numbers). n.heap) c.args.table.now.told in
+    let room = ap (λ (n : Numbers). n.heap) c.args.table.now.numbers_kept in
     (sym (sym c.if-word-ne0.false ∙ word ∙ ap (λ (y : Units). address_of y.built c.args.unit) t.units), omega (arith, c.if-after-table.false, c.args.self.now.rests.1), refl, omega (arith, c.args.self.now.rests.1), a.built)
 
 pub returns-clause-note : goal.returns-clause-note
@@ -86,4 +86,4 @@ returns-clause-note g c =
     let same = ap (λ (y : Units). length (heap_of y.built)) t.units in
     let n = note_of_accepted c.args.by.seat.me.0 c.note_of_units-note-2.result.seat.me.0 c.take_in.new.seat.me c.own_address-word.new.seat.me c.accept.new.seat.me c.args.unit _ c.args.words.now own.view t.knows c.accept.ensures.view c.note_of_units-note-2.ensures.view.1
     (sym word ∙ c.if-word-ne0.false) (omega (arith, c.args.self.now.rests.1)) in
-    (c.note_of_units-note-2.ensures.table.1 ∙ c.accept.ensures.table ∙ own.table ∙ c.take_in.ensures.table ∙ c.requires.table.0, n.0, n.1)
+    (c.note_of_units-note-2.ensures.table.1 ∙ c.accept.ensures.table ∙ own.table ∙ c.take_in.ensures.table ∙ c.requires.table.0, n.0, n.1, λ (z : c.args.self.now.end + 1 ≡ 0). omega arith)

@@ -4,7 +4,7 @@ use Rattle.inst_table.proofs.Follows.{arrives, rights, FollowsChain-none, Follow
 use Rattle.inst_table.proofs.table.Table.follow.Goals as goal
 
 pub loop-place-init : goal.loop-place-init
-loop-place-init g c = let own = c.requires.operands in let told = ap (λ (n : Numbers). n.rows) c.args.self.now.told in let view = c.head-place.ensures.view in
+loop-place-init g c = let own = c.requires.operands in let kept = ap (λ (n : Numbers). n.rows) c.args.self.now.numbers_kept in let view = c.head-place.ensures.view in
     let before = c.args.seat.now.me in
     let a = arrives before.0 before c.head-place.new.seat.me c.args.key.now _ c.args.count _ _ own.1 own.2 view (FollowsChain-none before.0 c.args.key.now) in record {
       table = c.head-place.ensures.table;

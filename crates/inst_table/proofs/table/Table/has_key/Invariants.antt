@@ -1,6 +1,6 @@
 use Rattle.std.proofs.Common.{◌≡◌, ℕ, ◌<◌, Contains, get_or}
 use Rattle.inst_table.specs.Passes.{LearnsRow}
-use Rattle.inst_table.specs.declared.view.Known.TheVariants.{KeyWord}
+use Rattle.inst_table.specs.declared.view.KnownWord.TheVariants.{KeyWord}
 use Rattle.inst_table.proofs.table.Table.has_key.Given as goal
 
 abbrev pub invariant-loop-at : goal.invariant-loop-at

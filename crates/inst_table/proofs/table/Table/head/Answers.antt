@@ -7,7 +7,7 @@ use Rattle.inst_table.proofs.table.Table.head.Goals as goal
 
 pub load-requires : goal.load-requires
 load-requires g c =
-    let room = ap (λ (n : Numbers). n.rows) c.args.self.now.told in let own = c.requires.operands in let bucket = c.bucket_of.ensures in
+    let room = ap (λ (n : Numbers). n.rows) c.args.self.now.numbers_kept in let own = c.requires.operands in let bucket = c.bucket_of.ensures in
     let key = ap bucket_of own.1 in (
       c.requires.table,
       omega (arith, c.head_place.ensures),

@@ -1,6 +1,6 @@
 use Rattle.std.proofs.Common.{arith, ◌∙◌}
 use Rattle.inst_table.proofs.Starts.{starts}
-use Rattle.inst_table.proofs.Tellings.{tells, gives_creation}
+use Rattle.inst_table.proofs.Sharing.{tells, gives_creation}
 use Rattle.inst_table.proofs.table.Table.make.Goals as goal
 
 pub of_words-requires : goal.of_words-requires

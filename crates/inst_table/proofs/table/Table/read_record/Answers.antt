@@ -7,7 +7,7 @@ load-requires g c = let own = c.requires.operands in let p = c.record_place-plac
   c.requires.table,
   omega (arith, p.inside, c.args.self.now.sized),
   reads_record_at g.F.Fit.asked g.F.Fit.fits g.F.Fit.longest c.args.self.now.words.shared.key.fit c.args.self.now.words.shared.key.numbers c.args.self.now.numbers _ _ _ c.args.seat.now.me _ _ c.args.address.unit _ c.args.address.word _ c.args.at _
-      c.args.self.now.told p.value own.0 own.1 own.2 own.3 own.4 known.0 known.1,
+      c.args.self.now.numbers_kept p.value own.0 own.1 own.2 own.3 own.4 known.0 known.1,
 )
 
 pub returns-clause-fits : goal.returns-clause-fits

@@ -8,7 +8,7 @@ invariant-loop-place g l = record {
   table : l.seat.table_id ≡ l.fn.seat.table_id;
   view : l.seat.me ≡ l.fn.seat.me;
   chain : OnChain l.fn.seat.me.0.rows.linked l.key l.place;
-  sound : AreSound g.K.Asked.asked g.K.Asked.room l.fn.seat.me.0.rows.linked;
+  sound : AreSound g.K.RowOperands.asked g.K.RowOperands.room l.fn.seat.me.0.rows.linked;
 }
 
 abbrev pub decreases-loop-place : goal.decreases-loop-place

@@ -1,5 +1,5 @@
 use Rattle.std.proofs.Common.{arith}
-use Rattle.inst_table.proofs.Tellings.{takes_in}
+use Rattle.inst_table.proofs.Sharing.{takes_in}
 use Rattle.inst_table.proofs.table.Table.take_in.Goals as goal
 
 pub join_seat-requires : goal.join_seat-requires

@@ -3,4 +3,4 @@ use Rattle.inst_table.proofs.tests.Table+Keys.put.Goals as goal
 
 pub publish-requires-clause-record : goal.publish-requires-clause-record
 publish-requires-clause-record c κs = let row = c.requires.row in
-    (c.requires.words.0, inr (c.args.row, row.key, omega (arith, c.requires.table.2), row.wide, row.known, c.requires.words.1))
+    (c.requires.words.0, inr (c.args.row, row.key, omega (arith, c.args.self.now.words.shared.key.libraries), row.wide, row.known, c.requires.words.1))
