@@ -1,1 +1,24 @@
 mod Functions
+pub mod BlockCuts
+pub mod ClassFacts
+pub mod CodeFits
+pub mod CodeStands
+pub mod Cuts
+pub mod Dues
+pub mod Ends
+pub mod FaultLaws
+pub mod FaultReads
+pub mod Forward
+pub mod Fronts
+pub mod Labels
+pub mod Listings
+pub mod ModuleLevels
+pub mod ModuleReads
+pub mod NextLabels
+pub mod Printed
+pub mod ReadSequences
+pub mod Shapes
+pub mod Shorter
+pub mod Slices
+pub mod Tells
+pub mod WholeReads

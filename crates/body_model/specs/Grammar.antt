@@ -1,76 +1,71 @@
 -- The grammar of a structured function: a relation on the places of its flat list of instructions.
-use Rattle.std.specs.Prelude.{◌≡◌, ℕ, ◌+◌, true, false, List, length, take, All, IsTrue, slice_get, Option, None, Some}
+use Rattle.std.specs.Prelude.{◌≡◌, ℕ, ◌+◌, List, [], length, take, All, IsTrue, slice_get, Option, None, Some}
 use Rattle.spirv_model.specs.declared.module.Inst.{Inst}
 use Rattle.spirv_model.specs.declared.op.TheConstants.{FUNCTION, FUNCTION_END}
-use Rattle.body_model.specs.declared.grammar.Scope.{Scope}
-use Rattle.body_model.specs.declared.grammar.End.{End}
-use Rattle.body_model.specs.declared.grammar.BlockEnd.TheVariants.{Ends, GoesOn, Selects, Loops}
-use Rattle.body_model.specs.Blocks.{is_module_level, block_end, missing}
-
--- the function's own sequence
-abbrev pub main : Scope
-main = record { phis = false; first = true; merge = None; exits = None; header = None; test = None; may_loop = true; may_end = true; depth = 0 }
-
--- the sequence goes on behind a block or a loop
-abbrev pub later : Scope → Scope
-later scope = record scope { phis = false; first = false }
-
--- the sequence goes on at a selection's merge block
-abbrev pub merged : Scope → Scope
-merged scope = record scope { phis = true; first = false }
-
--- an arm of a selection in the sequence
-abbrev pub arm : Scope → ℕ → Scope
-arm scope merge = record { phis = false; first = false; merge = Some merge; exits = scope.exits; header = None; test = None; may_loop = scope.may_loop; may_end = scope.may_end; depth = scope.depth + 1 }
-
--- the condition sequence, the body and the continue sequence of a loop in the sequence
-abbrev pub condition : Scope → ℕ → Scope
-condition scope merge = record { phis = false; first = false; merge = None; exits = None; header = None; test = Some merge; may_loop = false; may_end = false; depth = scope.depth + 1 }
-
-abbrev pub body : Scope → ℕ → ℕ → Scope
-body scope merge next = record { phis = false; first = false; merge = None; exits = Some (record { merge = merge; next = next }); header = None; test = None; may_loop = scope.may_loop; may_end = scope.may_end; depth = scope.depth + 1 }
-
-abbrev pub continuing : Scope → ℕ → Scope
-continuing scope header = record { phis = false; first = false; merge = None; exits = None; header = Some header; test = None; may_loop = scope.may_loop; may_end = false; depth = scope.depth + 1 }
-
--- the block with this label stands at the place, and no such label before
-abbrev pub IsDue : List Inst → Option ℕ → ℕ → Type 0
-IsDue insts wanted place = missing insts wanted place ≡ None
+use Rattle.body_model.specs.declared.block_end.SequenceEnd.{SequenceEnd}
+use Rattle.body_model.specs.declared.block_end.SelectionHead.{SelectionHead}
+use Rattle.body_model.specs.declared.block_end.SwitchHead.{SwitchHead}
+use Rattle.body_model.specs.declared.block_end.LoopHead.{LoopHead}
+use Rattle.body_model.specs.declared.block_end.BlockEnd.TheVariants.{Ends, GoesOn, Selects, Picks, Loops}
+use Rattle.body_model.specs.Classes.{is_module_level}
+use Rattle.body_model.specs.Scope.{Scope, main, behind_block, behind_selection, behind_loop, arm, switch_arm, condition, body, continuing}
+use Rattle.body_model.specs.Blocks.{block_end}
+use Rattle.body_model.specs.Due.{IsDue}
+use Rattle.body_model.specs.Switches.{is_among, without, labels_of}
 
 mutual
-  -- the places from the first up to the second are a sequence in the scope, which ends so; behind a condition sequence the block with the given label stands
+  -- the places from the first up to the second are a sequence in the scope, whose first block has the wanted label, if one is given; behind a condition sequence the block with the label `next` stands
   pub data Sequence (insts : List Inst) : Scope → Option ℕ → ℕ → ℕ → Option ℕ → Type 0 where
-    ends : {scope : Scope} {wanted next : Option ℕ} {from to : ℕ} (end : End) → IsDue insts wanted from
-        → block_end insts scope from ≡ Ends end next to → Sequence insts scope wanted from to next
+    ends : {scope : Scope} {wanted next : Option ℕ} {from to : ℕ} (last : SequenceEnd) → IsDue insts wanted from
+        → block_end insts scope from ≡ Ends last → last.next ≡ next → last.after ≡ to → Sequence insts scope wanted from to next
     goes_on : {scope : Scope} {wanted next : Option ℕ} {from to : ℕ} (after : ℕ) → IsDue insts wanted from
-        → block_end insts scope from ≡ GoesOn after → Sequence insts (later scope) None after to next → Sequence insts scope wanted from to next
-    selects : {scope : Scope} {wanted next : Option ℕ} {from to : ℕ} (cond merge on_true on_false after second join : ℕ) → IsDue insts wanted from
-        → block_end insts scope from ≡ Selects cond merge on_true on_false after
-        → Arm insts scope merge on_true after second → Arm insts scope merge on_false second join
-        → Sequence insts (merged scope) (Some merge) join to next → Sequence insts scope wanted from to next
-    loops : {scope : Scope} {wanted next : Option ℕ} {from to : ℕ} (header merge continue test inner after first second third : ℕ) → IsDue insts wanted from
-        → block_end insts scope from ≡ Loops header merge continue test after
-        → Sequence insts (condition scope merge) (Some test) after first (Some inner)
-        → Sequence insts (body scope merge continue) (Some inner) first second None
-        → Sequence insts (continuing scope header) (Some continue) second third None
-        → Sequence insts (later scope) (Some merge) third to next → Sequence insts scope wanted from to next
+        → block_end insts scope from ≡ GoesOn after → Sequence insts (behind_block scope) None after to next → Sequence insts scope wanted from to next
+    selects : {scope : Scope} {wanted next : Option ℕ} {from to : ℕ} (head : SelectionHead) (second join : ℕ) → IsDue insts wanted from
+        → block_end insts scope from ≡ Selects head
+        → Arm insts scope head.merge head.on_true head.after second → Arm insts scope head.merge head.on_false second join
+        → Sequence insts (behind_selection scope) (Some head.merge) join to next → Sequence insts scope wanted from to next
+    picks : {scope : Scope} {wanted next : Option ℕ} {from to : ℕ} (head : SwitchHead) (join : ℕ) → IsDue insts wanted from
+        → block_end insts scope from ≡ Picks head
+        → Arms insts scope head.merge (labels_of insts head) (labels_of insts head) head.after [] join
+        → Sequence insts (behind_selection scope) (Some head.merge) join to next → Sequence insts scope wanted from to next
+    loops : {scope : Scope} {wanted next : Option ℕ} {from to : ℕ} (head : LoopHead) (inner first second third : ℕ) → IsDue insts wanted from
+        → block_end insts scope from ≡ Loops head
+        → Sequence insts (condition scope head.merge) (Some head.test) head.after first (Some inner)
+        → Sequence insts (body scope head.merge head.next) (Some inner) first second None
+        → Sequence insts (continuing scope head.header) (Some head.next) second third None
+        → Sequence insts (behind_loop scope) (Some head.merge) third to next → Sequence insts scope wanted from to next
 
   -- one way of a selection: straight to the merge block, or an arm with its label
   pub data Arm (insts : List Inst) : Scope → ℕ → ℕ → ℕ → ℕ → Type 0 where
     straight : {scope : Scope} {merge target from to : ℕ} → target ≡ merge → from ≡ to → Arm insts scope merge target from to
     through : {scope : Scope} {merge target from to : ℕ} → (target ≡ merge → ⊥) → Sequence insts (arm scope merge) (Some target) from to None → Arm insts scope merge target from to
 
+  -- some arms of an OpSwitch, one behind the other: of its arms with the first labels, those with the second ones are due at the first place, and those with the third ones are left at the second place
+  pub data Arms (insts : List Inst) : Scope → ℕ → List ℕ → List ℕ → ℕ → List ℕ → ℕ → Type 0 where
+    no_arm : {scope : Scope} {merge : ℕ} {all due left : List ℕ} {from to : ℕ} → due ≡ left → from ≡ to → Arms insts scope merge all due from left to
+    arm_behind : {scope : Scope} {merge : ℕ} {all due left : List ℕ} {from to : ℕ} (label between : ℕ) (before : List ℕ)
+        → Arms insts scope merge all due from before between → IsTrue (is_among label before) → without label before ≡ left
+        → Sequence insts (switch_arm scope merge (without label all)) (Some label) between to None → Arms insts scope merge all due from left to
+
+-- arms of an OpSwitch stand from its head up to the place, and those with these labels are left
+abbrev pub ArmsUpTo : List Inst → Scope → SwitchHead → List ℕ → ℕ → Type 0
+ArmsUpTo insts scope head left place = Arms insts scope head.merge (labels_of insts head) (labels_of insts head) head.after left place
+
 -- there is an instruction, with this opcode
 abbrev pub IsOp : ℕ → Option Inst → Type 0
 IsOp op None = ⊥
 IsOp op (Some inst) = inst.op ≡ op
 
+-- OpFunction stands at the place, and only the module's level before it
+pub record Begins (insts : List Inst) (place : ℕ) : Type 0 where
+  pub module_level : All (λ inst. IsTrue (is_module_level inst.op)) (take place insts)
+  pub function : IsOp FUNCTION (slice_get insts place)
+
 -- the list is a module with one structured function
 pub record Derives (insts : List Inst) : Type 0 where
   pub before : ℕ
   pub after : ℕ
-  pub module_level : All (λ inst. IsTrue (is_module_level inst.op)) (take before insts)
-  pub function : IsOp FUNCTION (slice_get insts before)
+  pub begins : Begins insts before
   pub sequence : Sequence insts main None (before + 1) after None
   pub function_end : IsOp FUNCTION_END (slice_get insts after)
   pub last : length insts ≡ after + 1

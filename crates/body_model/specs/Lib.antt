@@ -1,3 +1,11 @@
 pub mod Blocks
+pub mod Classes
+pub mod Code
+pub mod Due
+pub mod Faults
+pub mod Fitting
 pub mod Grammar
-pub mod TreeFaults
+pub mod Reading
+pub mod Scope
+pub mod Switches
+pub mod Targets

@@ -35,6 +35,7 @@ rest_letters rest.Nothing = []
 rest_letters rest.IdRefs = codes "x*"
 rest_letters rest.LiteralIntegers = codes "n*"
 rest_letters rest.PairsIdRefIdRef = codes "(xx)*"
+rest_letters rest.PairsLiteralIntegerIdRef = codes "(nx)*"
 
 -- classes as text
 abbrev scalar_name : ScalarClass → List ℕ
@@ -163,6 +164,7 @@ pub opcodes : map row_text ROWS
     ∷ (248, codes "R", codes "label")
     ∷ (249, codes "x", codes "terminator")
     ∷ (250, codes "xxx", codes "terminator")
+    ∷ (251, codes "xx(nx)*", codes "terminator")
     ∷ (252, codes "", codes "terminator")
     ∷ (253, codes "", codes "terminator")
     ∷ (255, codes "", codes "terminator")

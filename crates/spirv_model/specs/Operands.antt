@@ -6,7 +6,7 @@ use Rattle.spirv_model.specs.declared.class.Class.{Class}
 use Rattle.spirv_model.specs.declared.table.Operand.{Operand}
 use Rattle.spirv_model.specs.declared.table.Operand.TheVariants.{IdResultType, IdResult, IdRef, LiteralInteger, Fixed, LiteralString}
 use Rattle.spirv_model.specs.declared.table.Rest.{Rest}
-use Rattle.spirv_model.specs.declared.table.Rest.TheVariants.{Nothing, IdRefs, LiteralIntegers, PairsIdRefIdRef}
+use Rattle.spirv_model.specs.declared.table.Rest.TheVariants.{Nothing, IdRefs, LiteralIntegers, PairsIdRefIdRef, PairsLiteralIntegerIdRef}
 use Rattle.spirv_model.specs.declared.table.Operands.{Operands}
 use Rattle.spirv_model.specs.declared.table.Entry.{Entry}
 use Rattle.spirv_model.specs.declared.table.Entry.TheVariants.{Listed}
@@ -63,6 +63,12 @@ operand_words LiteralString words = text_words words
 operand_words operand [] = None
 operand_words operand (word ∷ words) = if may_be operand word then Some 1 else None
 
+-- literals and ids by turns
+abbrev pub literal_and_id : List ℕ → List Operand
+literal_and_id [] = []
+literal_and_id (literal ∷ []) = LiteralInteger ∷ []
+literal_and_id (literal ∷ id ∷ words) = LiteralInteger ∷ IdRef ∷ literal_and_id words
+
 -- the operands that words after the listed ones are, where they fit
 abbrev pub rest_kinds : Rest → List ℕ → Option (List Operand)
 rest_kinds Nothing [] = Some []
@@ -70,6 +76,7 @@ rest_kinds Nothing (word ∷ words) = None
 rest_kinds IdRefs words = Some (map (λ _. IdRef) words)
 rest_kinds LiteralIntegers words = Some (map (λ _. LiteralInteger) words)
 rest_kinds PairsIdRefIdRef words = if length words % 2 == 0 then Some (map (λ _. IdRef) words) else None
+rest_kinds PairsLiteralIntegerIdRef words = if length words % 2 == 0 then Some (literal_and_id words) else None
 
 -- the operand that each word is or belongs to, where the words fit the listed operands and the rest
 abbrev pub kinds_from : List (Option Operand) → Rest → List ℕ → Option (List Operand)

@@ -4,7 +4,7 @@
 use crate::class::{Class, ScalarClass};
 use crate::op;
 use crate::table::Operand::{Fixed, IdRef, IdResult, IdResultType, LiteralInteger, LiteralString};
-use crate::table::Rest::{IdRefs, LiteralIntegers, Nothing, PairsIdRefIdRef};
+use crate::table::Rest::{IdRefs, LiteralIntegers, Nothing, PairsIdRefIdRef, PairsLiteralIntegerIdRef};
 
 /// The capability that a module may declare (SPIR-V specification, section 3.31 "Capability").
 pub const SHADER: u32 = 1;
@@ -40,6 +40,8 @@ pub enum Rest {
     LiteralIntegers,
     /// Pairs of ids.
     PairsIdRefIdRef,
+    /// Pairs of any word and an id.
+    PairsLiteralIntegerIdRef,
 }
 
 /// The operands that a row lists by themselves, in their order, up to the first `None`.
@@ -332,8 +334,13 @@ const ID_ID_ID: Operands = Operands {
     rest: Nothing,
 };
 
+const ID_ID_CASES: Operands = Operands {
+    listed: (Some(IdRef), Some(IdRef), None, None, None),
+    rest: PairsLiteralIntegerIdRef,
+};
+
 /// The opcodes that are known, in ascending order.
-pub static ROWS: [Row; 91] = [
+pub static ROWS: [Row; 92] = [
     Row {
         op: op::NOP,
         entry: Entry::Skipped,
@@ -761,6 +768,10 @@ pub static ROWS: [Row; 91] = [
     Row {
         op: op::BRANCH_CONDITIONAL,
         entry: Entry::Listed(Class::Terminator, ID_ID_ID),
+    },
+    Row {
+        op: op::SWITCH,
+        entry: Entry::Listed(Class::Terminator, ID_ID_CASES),
     },
     Row {
         op: op::KILL,
