@@ -1,5 +1,5 @@
 -- A block of a list, cut out of it: its label, its end and its last instruction's words.
-use Rattle.std.proofs.Common.{◌≡◌, ℕ, zero, suc, ◌+◌, ◌-◌, ◌<◌, ◌≤◌, true, ◌==◌, ◌&&◌, List, [], ◌∷◌, ◌++◌, length, take, drop, slice_index, Option, None, Some, refl, ap, subst, sym, ◌∙◌, arith}
+use Rattle.std.proofs.Common.{◌≡◌, ℕ, zero, suc, ◌+◌, ◌-◌, ◌<◌, ◌≤◌, true, ◌==◌, List, [], ◌∷◌, ◌++◌, length, take, drop, slice_index, Option, None, Some, refl, ap, ◌∙◌, arith}
 use Rattle.std.specs.Prelude.{IsTrue}
 use Rattle.std.proofs.lemmas.Bool.{and_from, eq-eqb}
 use Rattle.spirv_model.specs.declared.module.Inst.{Inst}
@@ -13,7 +13,7 @@ use Rattle.body_model.specs.Due.{only, IsDue}
 use Rattle.body_model.specs.Code.{slice}
 use Rattle.body_model.specs.Fitting.{HasLabel, last_words}
 use Rattle.body_model.proofs.Cuts.{Begun, Alike, ends_alike}
-use Rattle.body_model.proofs.Dues.{Stands, stands_at, among_one}
+use Rattle.body_model.proofs.Dues.{DueFront, stands_at, among_one}
 use Rattle.body_model.proofs.Slices.{slice_long, slice_and_rest, slice_last}
 
 -- what stands in front of a list, stands in front of a slice of it
@@ -30,7 +30,7 @@ front_slice rest inst more zero some front label is_label is = absurd (omega ari
 front_slice rest inst more (suc n) some front label is_label is =
     ap (λ (l : List Inst). begins_with label (take (suc n) l)) front ∙ and_from (inst.op == LABEL) (slice_index inst.words 0 == label) is_label (eq-eqb (slice_index inst.words 0) label is)
 
-label_by : (wanted : Option ℕ) (before rest : List Inst) (n : ℕ) → 0 < n → Stands before (only wanted) rest → HasLabel wanted (take n rest)
+label_by : (wanted : Option ℕ) (before rest : List Inst) (n : ℕ) → 0 < n → DueFront before (only wanted) rest → HasLabel wanted (take n rest)
 label_by None before rest n some s = (slice_index s.inst.words 0, front_slice rest s.inst s.more n some s.front (slice_index s.inst.words 0) s.label refl)
 label_by (Some label) before rest n some s = front_slice rest s.inst s.more n some s.front label s.label (among_one (slice_index s.inst.words 0) label s.among)
 

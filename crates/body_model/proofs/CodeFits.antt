@@ -1,5 +1,5 @@
 -- A derivation's code fits its scope.
-use Rattle.std.proofs.Common.{◌≡◌, ℕ, ◌+◌, ◌<◌, ◌≤◌, List, [], ◌++◌, length, drop, Option, None, Some, refl, ap, subst, sym, ◌∙◌, arith, append_assoc}
+use Rattle.std.proofs.Common.{◌≡◌, ℕ, ◌+◌, ◌<◌, List, [], ◌++◌, length, Option, ap, subst, sym, ◌∙◌, arith}
 use Rattle.spirv_model.specs.declared.module.Inst.{Inst}
 use Rattle.body_model.specs.declared.block_end.BlockEnd.TheVariants.{Ends, GoesOn, Selects, Picks, Loops}
 use Rattle.body_model.specs.declared.block_end.SequenceEnd.{SequenceEnd}
@@ -8,13 +8,12 @@ use Rattle.body_model.specs.declared.block_end.SwitchHead.{SwitchHead}
 use Rattle.body_model.specs.declared.block_end.LoopHead.{LoopHead}
 use Rattle.body_model.specs.Scope.{Scope}
 use Rattle.body_model.specs.Blocks.{block_from, block_end}
-use Rattle.body_model.specs.Switches.{without, arm_labels, cases_of, switch_words, labels_of}
+use Rattle.body_model.specs.Switches.{arm_labels, cases_of, labels_of}
 use Rattle.body_model.specs.Grammar.{Sequence, ends, goes_on, selects, picks, loops, Arm, straight, through, Arms, no_arm, arm_behind}
 use Rattle.body_model.specs.Code.{Code, CodeArms, printed, slice, code_of, code_of_arm, code_of_arms}
 use Rattle.body_model.specs.Code as code
 use Rattle.body_model.specs.Fitting.{EndsAs, Fits, FitsArm, FitsArms, last_words}
 use Rattle.body_model.specs.Fitting as fitting
-use Rattle.body_model.proofs.Ends.{Between}
 use Rattle.body_model.proofs.Forward.{sound_at, forward}
 use Rattle.body_model.proofs.BlockCuts.{begun_slice, has_label, end_of_cut, whole_length, last_words_of, last_labels_of}
 use Rattle.body_model.proofs.Listings.{listed}

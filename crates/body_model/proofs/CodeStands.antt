@@ -1,14 +1,14 @@
 -- Code that fits a scope is a sequence wherever it is printed, if no label stands twice; and the sequence's code is the code itself.
-use Rattle.std.proofs.Common.{◌≡◌, ℕ, ◌+◌, ◌<◌, ◌≤◌, false, List, [], ◌∷◌, ◌++◌, length, drop, Option, None, Some, refl, ap, subst, sym, ◌∙◌, arith}
+use Rattle.std.proofs.Common.{◌≡◌, ℕ, ◌+◌, false, List, [], ◌++◌, length, Option, refl, ap, subst, sym, ◌∙◌, arith}
 use Rattle.std.proofs.lemmas.List.{drop_at}
 use Rattle.spirv_model.specs.declared.module.Inst.{Inst}
-use Rattle.body_model.specs.declared.scope.End.{End}
 use Rattle.body_model.specs.Scope.{Scope}
-use Rattle.body_model.specs.Switches.{Case, repeat, arm_labels, cases_of, switch_words, labels_of}
+use Rattle.body_model.specs.Switches.{repeat, arm_labels, cases_of, labels_of}
 use Rattle.body_model.specs.Grammar.{Sequence, Arm, Arms}
 use Rattle.body_model.specs.Grammar as grammar
-use Rattle.body_model.specs.Code.{Code, Ends, GoesOn, Selects, Picks, Loops, CodeArm, Straight, Through, CodeArms, NoArm, ArmBehind, printed, printed_arm, printed_arms, slice, code_of, code_of_arm, code_of_arms}
+use Rattle.body_model.specs.Code.{Code, CodeArm, Through, CodeArms, printed, printed_arm, printed_arms, code_of, code_of_arm, code_of_arms}
 use Rattle.body_model.specs.Fitting.{Fits, ends, goes_on, selects, picks, loops, FitsArm, straight, through, FitsArms, no_arm, arm_behind, last_words, labels}
+use Rattle.body_model.proofs.SameCode.{same_ends, same_goes, same_selects, same_picks, same_loops, same_behind}
 use Rattle.body_model.proofs.Printed.{Printed, first_part, second_part, nothing_printed, slice_is, due_printed, some_block, end_printed, words_printed, labels_printed}
 
 pub record IsSequence (insts : List Inst) (scope : Scope) (wanted : Option ℕ) (from to : ℕ) (next : Option ℕ) (code : Code) : Type 0 where
@@ -22,26 +22,6 @@ pub record IsArm (insts : List Inst) (scope : Scope) (merge target from to : ℕ
 pub record AreArms (insts : List Inst) (scope : Scope) (merge : ℕ) (all due : List ℕ) (from : ℕ) (left : List ℕ) (to : ℕ) (code : CodeArms) : Type 0 where
   pub arms : Arms insts scope merge all due from left to
   pub same : code_of_arms arms ≡ code
-
-same_ends : (b b' : List Inst) (end : End) → b ≡ b' → Ends b end ≡ Ends b' end
-same_ends b b' end is = cc
-
-same_goes : (b b' : List Inst) (c c' : Code) → b ≡ b' → c ≡ c' → GoesOn b c ≡ GoesOn b' c'
-same_goes b b' c c' is rest = cc
-
-same_selects : (b b' : List Inst) (cond merge on_true on_false : ℕ) (x x' y y' : CodeArm) (c c' : Code) → b ≡ b' → x ≡ x' → y ≡ y' → c ≡ c'
-    → Selects b cond merge on_true on_false x y c ≡ Selects b' cond merge on_true on_false x' y' c'
-same_selects b b' cond merge on_true on_false x x' y y' c c' is p q rest = cc
-
-same_picks : (b b' : List Inst) (selector merge default : ℕ) (k k' : List Case) (x x' : CodeArms) (c c' : Code) → b ≡ b' → k ≡ k' → x ≡ x' → c ≡ c'
-    → Picks b selector merge default k x c ≡ Picks b' selector merge default k' x' c'
-same_picks b b' selector merge default k k' x x' c c' is p q rest = cc
-
-same_loops : (b b' : List Inst) (merge next test : ℕ) (x x' y y' z z' c c' : Code) → b ≡ b' → x ≡ x' → y ≡ y' → z ≡ z' → c ≡ c' → Loops b merge next test x y z c ≡ Loops b' merge next test x' y' z' c'
-same_loops b b' merge next test x x' y y' z z' c c' is p q r rest = cc
-
-same_behind : (x x' : CodeArms) (label : ℕ) (c c' : Code) → x ≡ x' → c ≡ c' → ArmBehind x label c ≡ ArmBehind x' label c'
-same_behind x x' label c c' p q = cc
 
 from_zero : (n : ℕ) → n ≡ 0 + n
 from_zero n = omega arith
@@ -81,7 +61,7 @@ mutual
       let is = end_printed insts scope block from after _ (some_block wanted block label) here (ended here.rest) (from_zero (length block)) in
       record {
         sequence = grammar.selects (record { cond = cond; merge = merge; on_true = on_true; on_false = on_false; after = after }) second join (due_printed insts wanted block from after differ label here) is one.arm two.arm
-        rest.sequence;
+            rest.sequence;
         same = same_selects _ block cond merge on_true on_false _ if_true _ if_false _ code (slice_is insts block from after here) one.same two.same rest.same;
       }
   stands insts differ {scope = scope} {wanted = wanted} (picks {block = block} {selector = selector} {merge = merge} {default = default} {cases = cases} {arms = arms} {code = code} label ended cases_are fits_arms fits) from to p =
@@ -97,7 +77,7 @@ mutual
       record {
         sequence = grammar.picks (record { selector = selector; merge = merge; default = default; after = after }) join (due_printed insts wanted block from after differ label here) is all.arms rest.sequence;
         same = same_picks _ block selector merge default _ cases _ arms _ code (slice_is insts block from after here)
-        (ap cases_of (words_printed insts block from after selector merge default some here) ∙ cases_are) all.same rest.same;
+            (ap cases_of (words_printed insts block from after selector merge default some here) ∙ cases_are) all.same rest.same;
       }
   stands insts differ {scope = scope} {wanted = wanted}
       (loops {block = block} {header = header} {merge = merge} {continue = continue} {test = test} {inner_label = inner_label} {condition = condition} {inner = inner} {step = step} {code = code} label ended tested inside stepped fits) from to p =
@@ -116,7 +96,7 @@ mutual
       let is = end_printed insts scope block from after _ (some_block wanted block label) here (ended here.rest) (from_zero (length block)) in
       record {
         sequence = grammar.loops (record { header = header; merge = merge; next = continue; test = test; after = after }) inner_label first second third (due_printed insts wanted block from after differ label here) is one.sequence
-        two.sequence three.sequence rest.sequence;
+            two.sequence three.sequence rest.sequence;
         same = same_loops _ block merge continue test _ condition _ inner _ step _ code (slice_is insts block from after here) one.same two.same three.same rest.same;
       }
 

@@ -1,5 +1,5 @@
 -- How a block ends depends neither on the place where it stands nor on what stands behind it, but for the label that it goes on to.
-use Rattle.std.proofs.Common.{◌≡◌, ℕ, zero, suc, ◌+◌, ◌<◌, ◌≤◌, Bool, true, false, not, nat_le, ◌==◌, ◌||◌, ◌&&◌, if◌then◌else◌, List, [], ◌∷◌, ◌++◌, length, slice_index, Option, None, Some, refl, ap, subst, sym, ◌∙◌, arith}
+use Rattle.std.proofs.Common.{◌≡◌, ℕ, suc, ◌+◌, ◌<◌, ◌≤◌, Bool, true, false, not, nat_le, ◌==◌, ◌||◌, ◌&&◌, if◌then◌else◌, List, [], ◌∷◌, ◌++◌, length, slice_index, Option, None, Some, refl, ap, subst, ◌∙◌, arith}
 use Rattle.limits.specs.declared.TheConstants.{NESTING}
 use Rattle.spirv_model.specs.declared.module.Inst.{Inst}
 use Rattle.spirv_model.specs.declared.op.TheConstants.{PHI, VARIABLE, LOOP_MERGE, SELECTION_MERGE, BRANCH, BRANCH_CONDITIONAL, SWITCH, KILL, RETURN, UNREACHABLE}
@@ -10,7 +10,7 @@ use Rattle.body_model.specs.declared.fault.TreeFault.{TreeFault}
 use Rattle.body_model.specs.Classes.{is_plain, is_terminator}
 use Rattle.body_model.specs.Scope.{Scope}
 use Rattle.body_model.specs.Switches.{is_among, repeat, literals_of}
-use Rattle.body_model.specs.Blocks.{begins_with, leads_to_loop, may_have_phis, exit_to, last_block, branch_end, branch, test_end, invocation_end, terminator_end, unmerged, selection_end, loop_branch, loop_end, last_part, rest_of_block, block_from}
+use Rattle.body_model.specs.Blocks.{begins_with, leads_to_loop, may_have_phis, exit_to, last_block, branch_end, test_end, invocation_end, terminator_end, unmerged, selection_end, loop_branch, last_part, rest_of_block, block_from}
 use Rattle.body_model.proofs.Ends.{IsSound, sound_earlier, sound_if, broken, sound_selection, sound_loop, sound_rest, nothing_said}
 
 -- the second instructions begin with each label that the first begin with

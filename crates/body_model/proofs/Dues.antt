@@ -47,7 +47,7 @@ passed true true wanted ended early past bad is = (let e = is.new in cc)
 passed false known wanted ended early past bad is = (let e = is.label in cc)
 
 -- what the front of the instructions behind a place says
-pub record Stands (before : List Inst) (wanted : Option (List ℕ)) (rest : List Inst) : Type 0 where
+pub record DueFront (before : List Inst) (wanted : Option (List ℕ)) (rest : List Inst) : Type 0 where
   pub inst : Inst
   pub more : List Inst
   pub front : rest ≡ inst ∷ more
@@ -55,23 +55,23 @@ pub record Stands (before : List Inst) (wanted : Option (List ℕ)) (rest : List
   pub new : has_label before (slice_index inst.words 0) ≡ false
   pub among : is_wanted wanted (slice_index inst.words 0) ≡ true
 
-pub stands_front : (before : List Inst) (wanted : Option (List ℕ)) (rest : List Inst) (place : ℕ) → misses_label before wanted rest place ≡ None → Stands before wanted rest
+pub stands_front : (before : List Inst) (wanted : Option (List ℕ)) (rest : List Inst) (place : ℕ) → misses_label before wanted rest place ≡ None → DueFront before wanted rest
 stands_front before wanted [] place is = cc
 stands_front before wanted (inst ∷ rest) place is =
     let p = passes (inst.op == LABEL) (has_label before (slice_index inst.words 0)) (is_wanted wanted (slice_index inst.words 0)) (inst.op == FUNCTION_END) _ _ _ is in
     record { inst = inst; more = rest; front = refl; label = p.label; new = p.new; among = p.among }
 
-pub front_stands : (before : List Inst) (wanted : Option (List ℕ)) (rest : List Inst) (place : ℕ) → Stands before wanted rest → misses_label before wanted rest place ≡ None
+pub front_stands : (before : List Inst) (wanted : Option (List ℕ)) (rest : List Inst) (place : ℕ) → DueFront before wanted rest → misses_label before wanted rest place ≡ None
 front_stands before wanted rest place s =
     ap (λ (l : List Inst). misses_label before wanted l place) s.front
     ∙ passed (s.inst.op == LABEL) (has_label before (slice_index s.inst.words 0)) (is_wanted wanted (slice_index s.inst.words 0)) (s.inst.op == FUNCTION_END) (ends_early wanted place) (BadBlock place) (BadMerge place)
     (record { label = s.label; new = s.new; among = s.among })
 
-pub stands_at : (insts : List Inst) (wanted : Option (List ℕ)) (place : ℕ) → missing insts wanted place ≡ None → Stands (take place insts) wanted (drop place insts)
+pub stands_at : (insts : List Inst) (wanted : Option (List ℕ)) (place : ℕ) → missing insts wanted place ≡ None → DueFront (take place insts) wanted (drop place insts)
 unfolding missing
 stands_at insts wanted place here = stands_front (take place insts) wanted (drop place insts) place here
 
-pub at_stands : (insts : List Inst) (wanted : Option (List ℕ)) (place : ℕ) → Stands (take place insts) wanted (drop place insts) → missing insts wanted place ≡ None
+pub at_stands : (insts : List Inst) (wanted : Option (List ℕ)) (place : ℕ) → DueFront (take place insts) wanted (drop place insts) → missing insts wanted place ≡ None
 unfolding missing
 at_stands insts wanted place stands = front_stands (take place insts) wanted (drop place insts) place stands
 

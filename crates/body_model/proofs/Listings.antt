@@ -1,5 +1,5 @@
 -- What a derivation's code prints is its slice of the list.
-use Rattle.std.proofs.Common.{◌≡◌, ℕ, ◌≤◌, List, ◌++◌, length, Option, refl, ap, arith}
+use Rattle.std.proofs.Common.{◌≡◌, ℕ, ◌≤◌, List, Option, refl, ap, arith}
 use Rattle.spirv_model.specs.declared.module.Inst.{Inst}
 use Rattle.body_model.specs.declared.block_end.BlockEnd.TheVariants.{GoesOn, Selects, Picks, Loops}
 use Rattle.body_model.specs.Scope.{Scope}

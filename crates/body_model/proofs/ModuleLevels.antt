@@ -18,7 +18,7 @@ use Rattle.body_model.proofs.Fronts.{front_is}
 use Rattle.body_model.proofs.ModuleReads.{IsLevel}
 
 -- no OpFunction stands at the module's level
-no_function : (op : ℕ) (function : Bool) → op == FUNCTION ≡ function → IsTrue (is_module_level op) → function ≡ false
+pub no_function : (op : ℕ) (function : Bool) → op == FUNCTION ≡ function → IsTrue (is_module_level op) → function ≡ false
 no_function op true is level =
     let e : false ≡ true = sym no_level_function ∙ subst (λ (n : ℕ). IsTrue (is_module_level n)) (eqb-true op FUNCTION is) level in cc
 no_function op false is level = refl

@@ -1,12 +1,10 @@
 -- Instructions that stand in a list from one place up to another.
-use Rattle.std.proofs.Common.{◌≡◌, ℕ, suc, ◌+◌, ◌-◌, ◌<◌, ◌≤◌, true, false, ◌==◌, ◌&&◌, List, [], ◌∷◌, ◌++◌, length, take, drop, slice_index, Option, None, Some, refl, ap, subst, sym, ◌∙◌, arith, append_assoc, length-append}
-use Rattle.std.specs.Prelude.{IsTrue}
+use Rattle.std.proofs.Common.{◌≡◌, ℕ, ◌+◌, ◌-◌, ◌<◌, ◌≤◌, true, false, ◌==◌, List, [], ◌∷◌, ◌++◌, length, take, drop, slice_index, Option, None, Some, refl, ap, subst, sym, ◌∙◌, arith, append_assoc, length-append}
 use Rattle.std.proofs.lemmas.Bool.{and_parts, eqb-true}
 use Rattle.std.proofs.lemmas.List.{take_at, drop_at, drop-drop, length-drop}
 use Rattle.spirv_model.specs.declared.module.Inst.{Inst}
 use Rattle.spirv_model.specs.declared.op.TheConstants.{LABEL}
 use Rattle.body_model.specs.declared.block_end.BlockEnd.{BlockEnd}
-use Rattle.body_model.specs.declared.block_end.SwitchHead.{SwitchHead}
 use Rattle.body_model.specs.Scope.{Scope}
 use Rattle.body_model.specs.Switches.{repeat, arm_labels, switch_words, labels_of}
 use Rattle.body_model.specs.Blocks.{begins_with, block_from, block_end}

@@ -63,7 +63,7 @@ same_arms : (insts : List Inst) (read : Reader) (n : ℕ) (scope : Scope) (merge
     → Left insts read scope merge all (read_arms insts read n scope merge all due from) left to
 same_arms insts read n scope merge all due left from to few same here = record { most = n; enough = omega (arith, ap length same); comes = cc }
 
-due_of : (insts : List Inst) {scope : Scope} {wanted next : Option ℕ} {from to : ℕ} → Sequence insts scope wanted from to next → IsDue insts wanted from
+pub due_of : (insts : List Inst) {scope : Scope} {wanted next : Option ℕ} {from to : ℕ} → Sequence insts scope wanted from to next → IsDue insts wanted from
 due_of insts (ends last here is label_is place_is) = here
 due_of insts (goes_on after here is rest) = here
 due_of insts (selects head second join here is on_true on_false rest) = here

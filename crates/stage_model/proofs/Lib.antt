@@ -1,1 +1,12 @@
-pub mod Samples
+pub mod BlockRuns
+pub mod CodeRuns
+pub mod Comings
+pub mod EnoughSteps
+pub mod Exits
+pub mod Flows
+pub mod Jumps
+pub mod LabelPlaces
+pub mod Loops
+mod Samples
+pub mod StageRuns
+pub mod WholeBlocks

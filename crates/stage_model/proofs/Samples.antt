@@ -1,23 +1,361 @@
--- Worked modules: their outcomes by computing, whatever their literal words are.
-use Rattle.std.proofs.Common.{◌≡◌, ℕ, List, [], ◌∷◌, refl, replicate}
-use Rattle.std.specs.Prelude.{Some, drop}
-use Rattle.spirv_model.specs.Module.{cut}
-use Rattle.stage_model.specs.declared.outcome.Kind.TheVariants.{Done}
-use Rattle.stage_model.specs.Stage.{stage}
+-- Outcomes of the sample modules, by computing.
+use Rattle.std.proofs.Common.{◌≡◌, ℕ, true, false, List, [], ◌∷◌, replicate, refl}
+use Rattle.std.specs.Prelude.{None, Some, Option}
+use Rattle.spirv_model.specs.declared.module.Inst.{Inst}
+use Rattle.state_model.specs.declared.parts.Entry.{Entry}
+use Rattle.state_model.specs.declared.parts.SpecValues.{SpecValues}
+use Rattle.state_model.specs.declared.buffers.Buffers.{Buffers}
+use Rattle.stage_model.specs.declared.inputs.Inputs.{Inputs}
+use Rattle.stage_model.specs.declared.outcome.Kind.TheVariants.{Done, Killed, Lost}
+use Rattle.scalar_model.specs.Scalars.{scalar_result, word_from_word, arithmetic, bitwise, comparison, truth_from_truth, truth_from_truths}
+use Rattle.valid_model.specs.Meanings.{known_by, known_after, known_of}
+use Rattle.valid_model.specs.Types.{type_of}
+use Rattle.spirv_model.specs.Operands.{class_of}
+use Rattle.valid_model.specs.DecorationWords.{decoration_of, offset_of}
+use Rattle.spirv_model.specs.Operands.{result, entry_of}
+use Rattle.stage_model.specs.Program.{program_of, first_label_place, layouts_by, held_layout, block_offsets}
+use Rattle.stage_model.specs.Start.{constant_of, defined_by, first_memory}
+use Rattle.stage_model.specs.Operations.{operation}
+use Rattle.stage_model.specs.Effect.{read_ids, result_of, effect_of}
+use Rattle.stage_model.specs.Machine.{read_values, done, step}
+use Rattle.stage_model.specs.Stage.{Given, Outcome, start_at, position_left, slots_left, stage}
 
--- A vertex module that stores (x, x, z, z) as its position.
-abbrev point_module : ℕ → ℕ → List ℕ
-point_module z x = 119734787 ∷ 65536 ∷ 0 ∷ 12 ∷ 0 ∷ 131089 ∷ 1 ∷ 196622 ∷ 0 ∷ 1 ∷ 393231 ∷ 0 ∷ 10 ∷ 1852399981 ∷ 0 ∷ 6 ∷ 262215 ∷ 6 ∷ 11 ∷ 0 ∷ 131091 ∷ 1 ∷ 196641 ∷ 2 ∷ 1 ∷ 262165 ∷ 3 ∷ 32 ∷ 1 ∷ 262167 ∷ 4 ∷ 3 ∷ 4 ∷ 262176 ∷ 5 ∷ 3 ∷ 4 ∷ 262203 ∷ 5 ∷ 6 ∷ 3 ∷ 262187 ∷ 3 ∷ 7 ∷ z ∷ 262187 ∷ 3 ∷ 8 ∷ x ∷ 458796 ∷ 4 ∷ 9 ∷ 8 ∷ 8 ∷ 7 ∷ 7 ∷ 327734 ∷ 1 ∷ 10 ∷ 0 ∷ 2 ∷ 131320 ∷ 11 ∷ 196670 ∷ 6 ∷ 9 ∷ 65789 ∷ 65592 ∷ []
+abbrev i : ℕ → List ℕ → Inst
+i op words = record { op = op; words = words }
 
--- It takes three steps.
-pub point : (z x : ℕ) → stage (cut (drop 5 (point_module z x))).insts
-    ≡ Some (record { kind = Done; position = x ∷ x ∷ z ∷ z ∷ []; slots = replicate 8 (replicate 4 0); back_edges = 0; work = 3 })
-point z x = refl
+abbrev no_inputs : Inputs
+no_inputs = record { slots = replicate 8 (replicate 4 0); vertex_index = 0; instance_index = 0; frag_coord = replicate 4 0; front = true; push = replicate 32 0; uniforms = replicate 4 (replicate 8 None) }
 
--- A fragment module that stores one word at location 0.
-abbrev constant_module : ℕ → List ℕ
-constant_module colour = 119734787 ∷ 65536 ∷ 0 ∷ 9 ∷ 0 ∷ 131089 ∷ 1 ∷ 196622 ∷ 0 ∷ 1 ∷ 393231 ∷ 4 ∷ 7 ∷ 1852399981 ∷ 0 ∷ 5 ∷ 196624 ∷ 7 ∷ 7 ∷ 262215 ∷ 5 ∷ 30 ∷ 0 ∷ 131091 ∷ 1 ∷ 196641 ∷ 2 ∷ 1 ∷ 262165 ∷ 3 ∷ 32 ∷ 0 ∷ 262176 ∷ 4 ∷ 3 ∷ 3 ∷ 262203 ∷ 4 ∷ 5 ∷ 3 ∷ 262187 ∷ 3 ∷ 6 ∷ colour ∷ 327734 ∷ 1 ∷ 7 ∷ 0 ∷ 2 ∷ 131320 ∷ 8 ∷ 196670 ∷ 5 ∷ 6 ∷ 65789 ∷ 65592 ∷ []
+abbrev no_buffers : Buffers
+no_buffers = record { list = [] }
 
-pub constant : (colour : ℕ) → stage (cut (drop 5 (constant_module colour))).insts
-    ≡ Some (record { kind = Done; position = replicate 4 0; slots = (colour ∷ 0 ∷ 0 ∷ 0 ∷ []) ∷ replicate 7 (replicate 4 0); back_edges = 0; work = 3 })
-constant colour = refl
+abbrev given : List (Option Entry) → Given
+given entries = record { entries = record { entries = entries }; inputs = no_inputs; buffers = no_buffers }
+
+abbrev entry : ℕ → ℕ → List (Option Entry)
+entry id value = Some (record { id = id; value = value }) ∷ []
+
+abbrev colour : ℕ → List (List ℕ)
+colour word = (word ∷ 0 ∷ 0 ∷ 0 ∷ []) ∷ replicate 7 (replicate 4 0)
+
+abbrev done_with : ℕ → ℕ → ℕ → Option Outcome
+done_with word back_edges work = Some (record { kind = Done; position = replicate 4 0; slots = colour word; back_edges = back_edges; work = work })
+
+abbrev f1 : List Inst
+f1 =
+    i 17 (1 ∷ [])
+    ∷ i 14 (0 ∷ 1 ∷ [])
+    ∷ i 15 (4 ∷ 7 ∷ 1852399981 ∷ 0 ∷ 5 ∷ [])
+    ∷ i 16 (7 ∷ 7 ∷ [])
+    ∷ i 71 (5 ∷ 30 ∷ 0 ∷ [])
+    ∷ i 19 (1 ∷ [])
+    ∷ i 33 (2 ∷ 1 ∷ [])
+    ∷ i 21 (3 ∷ 32 ∷ 0 ∷ [])
+    ∷ i 32 (4 ∷ 3 ∷ 3 ∷ [])
+    ∷ i 59 (4 ∷ 5 ∷ 3 ∷ [])
+    ∷ i 43 (3 ∷ 6 ∷ 42 ∷ [])
+    ∷ i 54 (1 ∷ 7 ∷ 0 ∷ 2 ∷ [])
+    ∷ i 248 (8 ∷ [])
+    ∷ i 62 (5 ∷ 6 ∷ [])
+    ∷ i 253 ([])
+    ∷ i 56 ([])
+    ∷ []
+
+abbrev f2 : List Inst
+f2 =
+    i 17 (1 ∷ [])
+    ∷ i 14 (0 ∷ 1 ∷ [])
+    ∷ i 15 (4 ∷ 7 ∷ 1852399981 ∷ 0 ∷ 5 ∷ [])
+    ∷ i 16 (7 ∷ 7 ∷ [])
+    ∷ i 71 (5 ∷ 30 ∷ 0 ∷ [])
+    ∷ i 71 (9 ∷ 1 ∷ 0 ∷ [])
+    ∷ i 19 (1 ∷ [])
+    ∷ i 33 (2 ∷ 1 ∷ [])
+    ∷ i 21 (3 ∷ 32 ∷ 0 ∷ [])
+    ∷ i 32 (4 ∷ 3 ∷ 3 ∷ [])
+    ∷ i 59 (4 ∷ 5 ∷ 3 ∷ [])
+    ∷ i 43 (3 ∷ 6 ∷ 100 ∷ [])
+    ∷ i 50 (3 ∷ 9 ∷ 7 ∷ [])
+    ∷ i 54 (1 ∷ 7 ∷ 0 ∷ 2 ∷ [])
+    ∷ i 248 (8 ∷ [])
+    ∷ i 134 (3 ∷ 10 ∷ 6 ∷ 9 ∷ [])
+    ∷ i 62 (5 ∷ 10 ∷ [])
+    ∷ i 253 ([])
+    ∷ i 56 ([])
+    ∷ []
+
+abbrev f3 : List Inst
+f3 =
+    i 17 (1 ∷ [])
+    ∷ i 14 (0 ∷ 1 ∷ [])
+    ∷ i 15 (4 ∷ 7 ∷ 1852399981 ∷ 0 ∷ 5 ∷ [])
+    ∷ i 16 (7 ∷ 7 ∷ [])
+    ∷ i 71 (5 ∷ 30 ∷ 0 ∷ [])
+    ∷ i 71 (9 ∷ 1 ∷ 1 ∷ [])
+    ∷ i 19 (1 ∷ [])
+    ∷ i 33 (2 ∷ 1 ∷ [])
+    ∷ i 21 (3 ∷ 32 ∷ 0 ∷ [])
+    ∷ i 32 (4 ∷ 3 ∷ 3 ∷ [])
+    ∷ i 59 (4 ∷ 5 ∷ 3 ∷ [])
+    ∷ i 20 (10 ∷ [])
+    ∷ i 32 (11 ∷ 7 ∷ 3 ∷ [])
+    ∷ i 43 (3 ∷ 12 ∷ 0 ∷ [])
+    ∷ i 43 (3 ∷ 13 ∷ 1 ∷ [])
+    ∷ i 50 (3 ∷ 9 ∷ 3 ∷ [])
+    ∷ i 54 (1 ∷ 7 ∷ 0 ∷ 2 ∷ [])
+    ∷ i 248 (20 ∷ [])
+    ∷ i 59 (11 ∷ 14 ∷ 7 ∷ [])
+    ∷ i 62 (14 ∷ 12 ∷ [])
+    ∷ i 249 (21 ∷ [])
+    ∷ i 248 (21 ∷ [])
+    ∷ i 246 (25 ∷ 24 ∷ 0 ∷ [])
+    ∷ i 249 (22 ∷ [])
+    ∷ i 248 (22 ∷ [])
+    ∷ i 61 (3 ∷ 30 ∷ 14 ∷ [])
+    ∷ i 176 (10 ∷ 31 ∷ 30 ∷ 9 ∷ [])
+    ∷ i 250 (31 ∷ 23 ∷ 25 ∷ [])
+    ∷ i 248 (23 ∷ [])
+    ∷ i 249 (24 ∷ [])
+    ∷ i 248 (24 ∷ [])
+    ∷ i 61 (3 ∷ 32 ∷ 14 ∷ [])
+    ∷ i 128 (3 ∷ 33 ∷ 32 ∷ 13 ∷ [])
+    ∷ i 62 (14 ∷ 33 ∷ [])
+    ∷ i 249 (21 ∷ [])
+    ∷ i 248 (25 ∷ [])
+    ∷ i 61 (3 ∷ 34 ∷ 14 ∷ [])
+    ∷ i 62 (5 ∷ 34 ∷ [])
+    ∷ i 253 ([])
+    ∷ i 56 ([])
+    ∷ []
+
+abbrev f5 : List Inst
+f5 =
+    i 17 (1 ∷ [])
+    ∷ i 14 (0 ∷ 1 ∷ [])
+    ∷ i 15 (4 ∷ 7 ∷ 1852399981 ∷ 0 ∷ 5 ∷ [])
+    ∷ i 16 (7 ∷ 7 ∷ [])
+    ∷ i 71 (5 ∷ 30 ∷ 0 ∷ [])
+    ∷ i 71 (9 ∷ 1 ∷ 2 ∷ [])
+    ∷ i 19 (1 ∷ [])
+    ∷ i 33 (2 ∷ 1 ∷ [])
+    ∷ i 21 (3 ∷ 32 ∷ 0 ∷ [])
+    ∷ i 32 (4 ∷ 3 ∷ 3 ∷ [])
+    ∷ i 59 (4 ∷ 5 ∷ 3 ∷ [])
+    ∷ i 20 (10 ∷ [])
+    ∷ i 43 (3 ∷ 11 ∷ 11 ∷ [])
+    ∷ i 43 (3 ∷ 12 ∷ 22 ∷ [])
+    ∷ i 48 (10 ∷ 9 ∷ [])
+    ∷ i 54 (1 ∷ 7 ∷ 0 ∷ 2 ∷ [])
+    ∷ i 248 (20 ∷ [])
+    ∷ i 247 (23 ∷ 0 ∷ [])
+    ∷ i 250 (9 ∷ 21 ∷ 22 ∷ [])
+    ∷ i 248 (21 ∷ [])
+    ∷ i 249 (23 ∷ [])
+    ∷ i 248 (22 ∷ [])
+    ∷ i 249 (23 ∷ [])
+    ∷ i 248 (23 ∷ [])
+    ∷ i 245 (3 ∷ 30 ∷ 11 ∷ 21 ∷ 12 ∷ 22 ∷ [])
+    ∷ i 62 (5 ∷ 30 ∷ [])
+    ∷ i 253 ([])
+    ∷ i 56 ([])
+    ∷ []
+
+abbrev f7 : List Inst
+f7 =
+    i 17 (1 ∷ [])
+    ∷ i 14 (0 ∷ 1 ∷ [])
+    ∷ i 15 (4 ∷ 7 ∷ 1852399981 ∷ 0 ∷ 5 ∷ [])
+    ∷ i 16 (7 ∷ 7 ∷ [])
+    ∷ i 71 (5 ∷ 30 ∷ 0 ∷ [])
+    ∷ i 71 (9 ∷ 1 ∷ 3 ∷ [])
+    ∷ i 19 (1 ∷ [])
+    ∷ i 33 (2 ∷ 1 ∷ [])
+    ∷ i 21 (3 ∷ 32 ∷ 0 ∷ [])
+    ∷ i 32 (4 ∷ 3 ∷ 3 ∷ [])
+    ∷ i 59 (4 ∷ 5 ∷ 3 ∷ [])
+    ∷ i 43 (3 ∷ 11 ∷ 10 ∷ [])
+    ∷ i 43 (3 ∷ 12 ∷ 20 ∷ [])
+    ∷ i 43 (3 ∷ 13 ∷ 30 ∷ [])
+    ∷ i 50 (3 ∷ 9 ∷ 2 ∷ [])
+    ∷ i 54 (1 ∷ 7 ∷ 0 ∷ 2 ∷ [])
+    ∷ i 248 (20 ∷ [])
+    ∷ i 247 (23 ∷ 0 ∷ [])
+    ∷ i 251 (9 ∷ 22 ∷ 1 ∷ 21 ∷ 2 ∷ 21 ∷ 5 ∷ 23 ∷ [])
+    ∷ i 248 (21 ∷ [])
+    ∷ i 249 (23 ∷ [])
+    ∷ i 248 (22 ∷ [])
+    ∷ i 249 (23 ∷ [])
+    ∷ i 248 (23 ∷ [])
+    ∷ i 245 (3 ∷ 30 ∷ 11 ∷ 21 ∷ 12 ∷ 22 ∷ 13 ∷ 20 ∷ [])
+    ∷ i 62 (5 ∷ 30 ∷ [])
+    ∷ i 253 ([])
+    ∷ i 56 ([])
+    ∷ []
+
+abbrev f8 : List Inst
+f8 =
+    i 17 (1 ∷ [])
+    ∷ i 14 (0 ∷ 1 ∷ [])
+    ∷ i 15 (4 ∷ 7 ∷ 1852399981 ∷ 0 ∷ 5 ∷ [])
+    ∷ i 16 (7 ∷ 7 ∷ [])
+    ∷ i 71 (5 ∷ 30 ∷ 0 ∷ [])
+    ∷ i 71 (9 ∷ 1 ∷ 1 ∷ [])
+    ∷ i 19 (1 ∷ [])
+    ∷ i 33 (2 ∷ 1 ∷ [])
+    ∷ i 21 (3 ∷ 32 ∷ 0 ∷ [])
+    ∷ i 32 (4 ∷ 3 ∷ 3 ∷ [])
+    ∷ i 59 (4 ∷ 5 ∷ 3 ∷ [])
+    ∷ i 20 (10 ∷ [])
+    ∷ i 43 (3 ∷ 12 ∷ 0 ∷ [])
+    ∷ i 43 (3 ∷ 13 ∷ 1 ∷ [])
+    ∷ i 50 (3 ∷ 9 ∷ 3 ∷ [])
+    ∷ i 54 (1 ∷ 7 ∷ 0 ∷ 2 ∷ [])
+    ∷ i 248 (20 ∷ [])
+    ∷ i 249 (21 ∷ [])
+    ∷ i 248 (21 ∷ [])
+    ∷ i 245 (3 ∷ 30 ∷ 12 ∷ 20 ∷ 32 ∷ 24 ∷ [])
+    ∷ i 245 (3 ∷ 31 ∷ 12 ∷ 20 ∷ 33 ∷ 24 ∷ [])
+    ∷ i 246 (25 ∷ 24 ∷ 0 ∷ [])
+    ∷ i 249 (22 ∷ [])
+    ∷ i 248 (22 ∷ [])
+    ∷ i 176 (10 ∷ 34 ∷ 30 ∷ 9 ∷ [])
+    ∷ i 250 (34 ∷ 23 ∷ 25 ∷ [])
+    ∷ i 248 (23 ∷ [])
+    ∷ i 249 (24 ∷ [])
+    ∷ i 248 (24 ∷ [])
+    ∷ i 128 (3 ∷ 32 ∷ 30 ∷ 13 ∷ [])
+    ∷ i 128 (3 ∷ 33 ∷ 31 ∷ 30 ∷ [])
+    ∷ i 249 (21 ∷ [])
+    ∷ i 248 (25 ∷ [])
+    ∷ i 62 (5 ∷ 31 ∷ [])
+    ∷ i 253 ([])
+    ∷ i 56 ([])
+    ∷ []
+
+abbrev f9 : List Inst
+f9 =
+    i 17 (1 ∷ [])
+    ∷ i 14 (0 ∷ 1 ∷ [])
+    ∷ i 15 (4 ∷ 7 ∷ 1852399981 ∷ 0 ∷ 5 ∷ [])
+    ∷ i 16 (7 ∷ 7 ∷ [])
+    ∷ i 71 (5 ∷ 30 ∷ 0 ∷ [])
+    ∷ i 71 (9 ∷ 1 ∷ 1 ∷ [])
+    ∷ i 19 (1 ∷ [])
+    ∷ i 33 (2 ∷ 1 ∷ [])
+    ∷ i 21 (3 ∷ 32 ∷ 0 ∷ [])
+    ∷ i 32 (4 ∷ 3 ∷ 3 ∷ [])
+    ∷ i 59 (4 ∷ 5 ∷ 3 ∷ [])
+    ∷ i 20 (10 ∷ [])
+    ∷ i 43 (3 ∷ 12 ∷ 0 ∷ [])
+    ∷ i 43 (3 ∷ 13 ∷ 1 ∷ [])
+    ∷ i 43 (3 ∷ 14 ∷ 2 ∷ [])
+    ∷ i 50 (3 ∷ 9 ∷ 3 ∷ [])
+    ∷ i 54 (1 ∷ 7 ∷ 0 ∷ 2 ∷ [])
+    ∷ i 248 (20 ∷ [])
+    ∷ i 249 (21 ∷ [])
+    ∷ i 248 (21 ∷ [])
+    ∷ i 245 (3 ∷ 30 ∷ 12 ∷ 20 ∷ 32 ∷ 24 ∷ [])
+    ∷ i 245 (3 ∷ 35 ∷ 13 ∷ 20 ∷ 36 ∷ 24 ∷ [])
+    ∷ i 245 (3 ∷ 36 ∷ 14 ∷ 20 ∷ 35 ∷ 24 ∷ [])
+    ∷ i 246 (25 ∷ 24 ∷ 0 ∷ [])
+    ∷ i 249 (22 ∷ [])
+    ∷ i 248 (22 ∷ [])
+    ∷ i 176 (10 ∷ 34 ∷ 30 ∷ 9 ∷ [])
+    ∷ i 250 (34 ∷ 23 ∷ 25 ∷ [])
+    ∷ i 248 (23 ∷ [])
+    ∷ i 249 (24 ∷ [])
+    ∷ i 248 (24 ∷ [])
+    ∷ i 128 (3 ∷ 32 ∷ 30 ∷ 13 ∷ [])
+    ∷ i 249 (21 ∷ [])
+    ∷ i 248 (25 ∷ [])
+    ∷ i 62 (5 ∷ 35 ∷ [])
+    ∷ i 253 ([])
+    ∷ i 56 ([])
+    ∷ []
+
+abbrev f10 : List Inst
+f10 =
+    i 17 (1 ∷ [])
+    ∷ i 14 (0 ∷ 1 ∷ [])
+    ∷ i 15 (4 ∷ 7 ∷ 1852399981 ∷ 0 ∷ 5 ∷ 40 ∷ [])
+    ∷ i 16 (7 ∷ 7 ∷ [])
+    ∷ i 71 (5 ∷ 30 ∷ 0 ∷ [])
+    ∷ i 71 (9 ∷ 1 ∷ 3 ∷ [])
+    ∷ i 71 (40 ∷ 11 ∷ 17 ∷ [])
+    ∷ i 19 (1 ∷ [])
+    ∷ i 33 (2 ∷ 1 ∷ [])
+    ∷ i 21 (3 ∷ 32 ∷ 0 ∷ [])
+    ∷ i 32 (4 ∷ 3 ∷ 3 ∷ [])
+    ∷ i 59 (4 ∷ 5 ∷ 3 ∷ [])
+    ∷ i 20 (10 ∷ [])
+    ∷ i 32 (41 ∷ 1 ∷ 10 ∷ [])
+    ∷ i 59 (41 ∷ 40 ∷ 1 ∷ [])
+    ∷ i 43 (3 ∷ 11 ∷ 10 ∷ [])
+    ∷ i 43 (3 ∷ 12 ∷ 20 ∷ [])
+    ∷ i 50 (3 ∷ 9 ∷ 2 ∷ [])
+    ∷ i 54 (1 ∷ 7 ∷ 0 ∷ 2 ∷ [])
+    ∷ i 248 (20 ∷ [])
+    ∷ i 61 (10 ∷ 30 ∷ 40 ∷ [])
+    ∷ i 247 (23 ∷ 0 ∷ [])
+    ∷ i 251 (9 ∷ 22 ∷ [])
+    ∷ i 248 (22 ∷ [])
+    ∷ i 247 (25 ∷ 0 ∷ [])
+    ∷ i 250 (30 ∷ 24 ∷ 25 ∷ [])
+    ∷ i 248 (24 ∷ [])
+    ∷ i 249 (23 ∷ [])
+    ∷ i 248 (25 ∷ [])
+    ∷ i 249 (23 ∷ [])
+    ∷ i 248 (23 ∷ [])
+    ∷ i 245 (3 ∷ 31 ∷ 11 ∷ 24 ∷ 12 ∷ 25 ∷ [])
+    ∷ i 62 (5 ∷ 31 ∷ [])
+    ∷ i 253 ([])
+    ∷ i 56 ([])
+    ∷ []
+
+pub f1-0 : stage f1 (given []) ≡ done_with 42 0 3
+unfolding result entry_of first_label_place scalar_result word_from_word arithmetic bitwise comparison truth_from_truth truth_from_truths known_by known_after known_of type_of decoration_of offset_of program_of layouts_by held_layout block_offsets constant_of defined_by first_memory operation class_of read_ids result_of effect_of read_values done step start_at position_left slots_left stage
+f1-0 = refl
+
+pub f2-0 : stage f2 (given []) ≡ done_with 14 0 4
+unfolding result entry_of first_label_place scalar_result word_from_word arithmetic bitwise comparison truth_from_truth truth_from_truths known_by known_after known_of type_of decoration_of offset_of program_of layouts_by held_layout block_offsets constant_of defined_by first_memory operation class_of read_ids result_of effect_of read_values done step start_at position_left slots_left stage
+f2-0 = refl
+
+pub f2-1 : stage f2 (given (entry 0 0)) ≡ done_with 0 0 4
+unfolding result entry_of first_label_place scalar_result word_from_word arithmetic bitwise comparison truth_from_truth truth_from_truths known_by known_after known_of type_of decoration_of offset_of program_of layouts_by held_layout block_offsets constant_of defined_by first_memory operation class_of read_ids result_of effect_of read_values done step start_at position_left slots_left stage
+f2-1 = refl
+
+pub f3-0 : stage f3 (given []) ≡ done_with 3 3 57
+unfolding result entry_of first_label_place scalar_result word_from_word arithmetic bitwise comparison truth_from_truth truth_from_truths known_by known_after known_of type_of decoration_of offset_of program_of layouts_by held_layout block_offsets constant_of defined_by first_memory operation class_of read_ids result_of effect_of read_values done step start_at position_left slots_left stage
+f3-0 = refl
+
+pub f3-1 : stage f3 (given (entry 1 0)) ≡ done_with 0 0 15
+unfolding result entry_of first_label_place scalar_result word_from_word arithmetic bitwise comparison truth_from_truth truth_from_truths known_by known_after known_of type_of decoration_of offset_of program_of layouts_by held_layout block_offsets constant_of defined_by first_memory operation class_of read_ids result_of effect_of read_values done step start_at position_left slots_left stage
+f3-1 = refl
+
+pub f5-0 : stage f5 (given []) ≡ done_with 11 0 9
+unfolding result entry_of first_label_place scalar_result word_from_word arithmetic bitwise comparison truth_from_truth truth_from_truths known_by known_after known_of type_of decoration_of offset_of program_of layouts_by held_layout block_offsets constant_of defined_by first_memory operation class_of read_ids result_of effect_of read_values done step start_at position_left slots_left stage
+f5-0 = refl
+
+pub f7-0 : stage f7 (given []) ≡ done_with 10 0 9
+unfolding result entry_of first_label_place scalar_result word_from_word arithmetic bitwise comparison truth_from_truth truth_from_truths known_by known_after known_of type_of decoration_of offset_of program_of layouts_by held_layout block_offsets constant_of defined_by first_memory operation class_of read_ids result_of effect_of read_values done step start_at position_left slots_left stage
+f7-0 = refl
+
+pub f7-1 : stage f7 (given (entry 3 5)) ≡ done_with 30 0 7
+unfolding result entry_of first_label_place scalar_result word_from_word arithmetic bitwise comparison truth_from_truth truth_from_truths known_by known_after known_of type_of decoration_of offset_of program_of layouts_by held_layout block_offsets constant_of defined_by first_memory operation class_of read_ids result_of effect_of read_values done step start_at position_left slots_left stage
+f7-1 = refl
+
+pub f7-2 : stage f7 (given (entry 3 9)) ≡ done_with 20 0 9
+unfolding result entry_of first_label_place scalar_result word_from_word arithmetic bitwise comparison truth_from_truth truth_from_truths known_by known_after known_of type_of decoration_of offset_of program_of layouts_by held_layout block_offsets constant_of defined_by first_memory operation class_of read_ids result_of effect_of read_values done step start_at position_left slots_left stage
+f7-2 = refl
+
+pub f8-0 : stage f8 (given []) ≡ done_with 3 3 55
+unfolding result entry_of first_label_place scalar_result word_from_word arithmetic bitwise comparison truth_from_truth truth_from_truths known_by known_after known_of type_of decoration_of offset_of program_of layouts_by held_layout block_offsets constant_of defined_by first_memory operation class_of read_ids result_of effect_of read_values done step start_at position_left slots_left stage
+f8-0 = refl
+
+pub f9-0 : stage f9 (given (entry 1 2)) ≡ done_with 1 2 42
+unfolding result entry_of first_label_place scalar_result word_from_word arithmetic bitwise comparison truth_from_truth truth_from_truths known_by known_after known_of type_of decoration_of offset_of program_of layouts_by held_layout block_offsets constant_of defined_by first_memory operation class_of read_ids result_of effect_of read_values done step start_at position_left slots_left stage
+f9-0 = refl
+
+pub f10-0 : stage f10 (given []) ≡ done_with 10 0 13
+unfolding result entry_of first_label_place scalar_result word_from_word arithmetic bitwise comparison truth_from_truth truth_from_truths known_by known_after known_of type_of decoration_of offset_of program_of layouts_by held_layout block_offsets constant_of defined_by first_memory operation class_of read_ids result_of effect_of read_values done step start_at position_left slots_left stage
+f10-0 = refl

@@ -1,3 +1,10 @@
+pub mod Effect
+pub mod Leads
 pub mod Machine
+pub mod Operations
+pub mod Program
+pub mod Running
 pub mod Stage
+pub mod Start
+pub mod Steps
 pub mod Value

@@ -1,125 +1,100 @@
--- The machine: what it starts with, and what one instruction does.
-use Rattle.std.specs.Prelude.{ℕ, zero, suc, ◌+◌, ◌==◌, if◌then◌else◌, List, [], ◌∷◌, take, slice_get, Option, None, Some}
-use Rattle.std.specs.List.{fold, position}
+-- The machine that runs a module's instructions one by one.
+use Rattle.std.specs.Prelude.{◌≡◌, ℕ, zero, suc, ◌+◌, ◌-◌, ◌==◌, Bool, nat_le, nat_lt, if◌then◌else◌, List, [], ◌∷◌, take, slice_index, slice_get, Option, None, Some}
 use Rattle.std.specs.Option.{option_map, option_and_then}
+use Rattle.limits.specs.declared.TheConstants.{BACK_EDGES}
 use Rattle.spirv_model.specs.declared.module.Inst.{Inst}
-use Rattle.spirv_model.specs.declared.op.TheConstants.{CONSTANT, CONSTANT_COMPOSITE, VARIABLE, STORE, LABEL, RETURN}
+use Rattle.spirv_model.specs.declared.op.TheConstants as op
 use Rattle.stage_model.specs.declared.outcome.Kind.{Kind}
-use Rattle.stage_model.specs.declared.outcome.Kind.TheVariants.{Done}
-use Rattle.stage_model.specs.Value.{Value, Word, Composite, Pointer, Parts, NoParts, PartsOf, Values, no_values, with_value, Memory, zeros, with_words, words_of}
+use Rattle.stage_model.specs.declared.outcome.Kind.TheVariants.{Lost}
+use Rattle.stage_model.specs.Value.{Value}
+use Rattle.stage_model.specs.Program.{Program}
+use Rattle.stage_model.specs.Start.{Values, Memory, with_value, all_values}
+use Rattle.stage_model.specs.Effect.{Effect, Passes, Gives, Writes, Enters, Goes, Stops, read_ids, effect_of, with_words}
 
--- The next instruction is at `place`. `label` is the block that runs, and `before` the one before it.
-pub record Machine : Type 0 where
-  pub place : ℕ
+-- What an invocation has come to, apart from its place.
+pub record State : Type 0 where
+  -- the block that runs, and the one before it
   pub label : ℕ
   pub before : ℕ
+  -- the values of ids now, and when the block was entered
   pub values : Values
+  pub values_at_entry : Values
   pub memory : Memory
   pub back_edges : ℕ
   pub steps : ℕ
 
--- what one instruction leads to: the machine goes on, or has ended
+-- where an instruction leads: to the next one, to a block, or to the invocation's end
+pub data Flow : Type 0 where
+  Next : Flow
+  To : ℕ → Flow
+  Stopped : Kind → Flow
+
+-- a phi reads the values at its block's entry, so that all phis of a block take theirs at once
+abbrev pub read_from : State → ℕ → Values
+read_from state opcode = if opcode == op.PHI then state.values_at_entry else state.values
+
+-- the values that an instruction reads
+unfoldable pub read_values : Inst → State → Option (List Value)
+read_values inst state = all_values (read_from state inst.op) (read_ids inst.op state.before inst.words)
+
+abbrev pub counted : State → State
+counted state = record state { steps = state.steps + 1 }
+
+-- the state after an effect of an instruction, and where it leads
+abbrev pub after_effect : Inst → State → Effect → Flow × State
+after_effect inst state Passes = (Next, counted state)
+after_effect inst state (Gives value) = (Next, record (counted state) { values = with_value (slice_index inst.words 1) (Some value) state.values })
+after_effect inst state (Writes variable place words) = (Next, record (counted state) { memory = with_words variable place words state.memory })
+after_effect inst state (Enters label) = (Next, record (counted state) { label = label; before = state.label; values_at_entry = state.values })
+after_effect inst state (Goes label) = (To label, counted state)
+after_effect inst state (Stops kind) = (Stopped kind, counted state)
+
+-- what an instruction does; nothing where it can't be done
+unfoldable pub done : Program → Inst → State → Option (Flow × State)
+done program inst state =
+    option_map (after_effect inst state) (option_and_then (effect_of program state.memory inst) (read_values inst state))
+
+-- The next instruction is at the place.
+pub record Machine : Type 0 where
+  pub place : ℕ
+  pub state : State
+
+-- what a step leads to: the machine goes on, or the invocation has ended
 pub data Step : Type 0 where
-  Goes : Machine → Step
-  Ends : Kind → Machine → Step
+  GoesOn : Machine → Step
+  Ends : Kind → State → Step
 
--- the values of these ids as parts, if each has one
-abbrev pub parts_of : Values → List ℕ → Option Parts
-parts_of values [] = Some NoParts
-parts_of values (id ∷ ids) =
-    option_and_then (λ value. option_map (λ parts. PartsOf value parts) (parts_of values ids)) (values id)
+abbrev pub at : ℕ → State → Step
+at place state = GoesOn (record { place = place; state = state })
 
--- OpConstant: its result is a word
-abbrev pub with_constant : Values → List ℕ → Values
-with_constant values (ty ∷ id ∷ word ∷ []) = with_value values id (Word word)
-with_constant values _ = values
+-- one more back edge; the last one that is allowed loses the invocation
+abbrev pub back_to : ℕ → State → Step
+back_to place state =
+    if nat_le BACK_EDGES (state.back_edges + 1)
+    then Ends Lost (record state { back_edges = state.back_edges + 1 })
+    else at place (record state { back_edges = state.back_edges + 1 })
 
--- the values with a composite of these parts
-abbrev pub with_parts : Values → ℕ → Option Parts → Values
-with_parts values id None = values
-with_parts values id (Some parts) = with_value values id (Composite parts)
+-- control goes from one place to another: back, where the latter stands earlier
+abbrev pub jump : ℕ → ℕ → State → Step
+jump from to state = if nat_le to from then back_to to state else at to state
 
--- OpConstantComposite: its result is made of constants
-abbrev pub with_composite : Values → List ℕ → Values
-with_composite values (ty ∷ id ∷ ids) = with_parts values id (parts_of values ids)
-with_composite values _ = values
-
--- OpVariable: its result is a pointer to the whole variable
-abbrev pub with_variable : Values → List ℕ → Values
-with_variable values (ty ∷ id ∷ class ∷ []) = with_value values id (Pointer id [])
-with_variable values _ = values
-
--- the values after a module-level instruction
-abbrev pub with_definition : Values → Inst → Values
-with_definition values inst =
-    if inst.op == CONSTANT then with_constant values inst.words
-    else if inst.op == CONSTANT_COMPOSITE then with_composite values inst.words
-    else if inst.op == VARIABLE then with_variable values inst.words
-    else values
-
--- what the module-level instructions define
-abbrev pub defined_by : List Inst → Values
-defined_by insts = fold with_definition no_values insts
-
--- the machine at the first block, whose label stands at this place
-abbrev pub start_at : List Inst → ℕ → Machine
-start_at insts first = record {
-  place = first;
-  label = 0;
-  before = 0;
-  values = defined_by (take first insts);
-  memory = zeros;
-  back_edges = 0;
-  steps = 0;
-}
-
--- where the first label stands
-abbrev pub first_label : List Inst → Option ℕ
-first_label insts = position (λ inst. inst.op == LABEL) insts
-
--- the machine past the instruction that it has run
-abbrev pub passed : Machine → Machine
-passed m = record m { place = m.place + 1; steps = m.steps + 1 }
-
--- OpLabel begins a block
-abbrev pub label_step : List ℕ → Machine → Option Step
-label_step (id ∷ []) m = Some (Goes (record (passed m) { label = id; before = m.label }))
-label_step _ m = None
-
--- a value's words stored through a pointer to a whole variable
-abbrev pub stored : Option Value → Option (List ℕ) → Machine → Option Step
-stored (Some (Pointer variable [])) (Some words) m = Some (Goes (record (passed m) { memory = with_words m.memory variable 0 words }))
-stored _ _ m = None
-
--- OpStore writes an object through a pointer
-abbrev pub store_step : List ℕ → Machine → Option Step
-store_step (pointer ∷ object ∷ []) m = stored (m.values pointer) (option_and_then words_of (m.values object)) m
-store_step _ m = None
-
--- OpReturn ends the invocation
-abbrev pub return_step : List ℕ → Machine → Option Step
-return_step [] m = Some (Ends Done (passed m))
-return_step _ m = None
-
--- what an instruction does; there is no answer for one that the machine doesn't know, or that lacks a value
-abbrev pub step_of : Inst → Machine → Option Step
-step_of inst m =
-    if inst.op == LABEL then label_step inst.words m
-    else if inst.op == STORE then store_step inst.words m
-    else if inst.op == RETURN then return_step inst.words m
-    else None
+-- where a flow leads from a place
+abbrev pub led : Program → ℕ → Flow × State → Option Step
+led program place (Next, state) = Some (at (place + 1) state)
+led program place (To label, state) = option_map (λ to. jump place to state) (program.label_place label)
+led program place (Stopped kind, state) = Some (Ends kind state)
 
 -- one step: the instruction at the place is run
-abbrev pub step : List Inst → Machine → Option Step
-step insts m = option_and_then (λ inst. step_of inst m) (slice_get insts m.place)
+unfoldable pub step : Program → Machine → Option Step
+step program m = option_and_then (led program m.place) (option_and_then (λ inst. done program inst m.state) (slice_get program.insts m.place))
 
--- the end that steps lead to
-abbrev pub go_on : Option Step → (Machine → Option (Kind × Machine)) → Option (Kind × Machine)
-go_on None run_on = None
-go_on (Some (Goes m)) run_on = run_on m
-go_on (Some (Ends kind m)) run_on = Some (kind, m)
+-- the end that a step leads to
+abbrev pub end_after : Option Step → (Machine → Option (Kind × State)) → Option (Kind × State)
+end_after None go = None
+end_after (Some (GoesOn m)) go = go m
+end_after (Some (Ends kind state)) go = Some (kind, state)
 
 -- how the machine ends within so many steps
-abbrev pub run : ℕ → List Inst → Machine → Option (Kind × Machine)
-run zero insts m = None
-run (suc n) insts m = go_on (step insts m) (run n insts)
+abbrev pub run : ℕ → Program → Machine → Option (Kind × State)
+run zero program m = None
+run (suc n) program m = end_after (step program m) (run n program)
