@@ -23,7 +23,7 @@ use Rattle.body_model.proofs.WholeReads.{arm_after, opened, next_arm, whole, who
 use Rattle.body_model.proofs.ModuleLevels.{fault_of_function}
 
 -- reading from a place comes to the fault, however many blocks may be read
-abbrev Meets : List Inst → Scope → Option ℕ → ℕ → TreeFault → Type 0
+abbrev pub Meets : List Inst → Scope → Option ℕ → ℕ → TreeFault → Type 0
 Meets insts scope wanted place fault = (n : ℕ) → length insts ≤ place + n → read_blocks n insts scope wanted place ≡ Err fault
 
 arm_by : (read : Reader) (scope : Scope) (merge target place : ℕ) (fault : TreeFault) (same : Bool) → same ≡ false → read (arm scope merge) (Some target) place ≡ Err fault
