@@ -4,6 +4,7 @@ pub mod ClassFacts
 pub mod CodeFits
 pub mod CodeStands
 pub mod Cuts
+pub mod Derivations
 pub mod Dues
 pub mod Ends
 pub mod FaultLaws
@@ -22,6 +23,7 @@ pub mod OneFunction
 pub mod Printed
 pub mod ReadSequences
 pub mod SameCode
+pub mod SampleModules
 pub mod Shapes
 pub mod Shorter
 pub mod Slices
