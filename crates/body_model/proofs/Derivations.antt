@@ -44,11 +44,11 @@ f3-derives = record {
   after = 39;
   begins = f3-begins;
   sequence = goes_on 21 refl refl
-        (loops (record { header = 21; merge = 25; next = 24; test = 22; after = 24 }) 23 28 30 35 refl refl
-        (ends (record { end = Test 31 true; next = Some 23; after = 28 }) refl refl refl refl)
-        (ends (record { end = Continue; next = None; after = 30 }) refl refl refl refl)
-        (ends (record { end = Back; next = None; after = 35 }) refl refl refl refl)
-        (ends (record { end = Return; next = None; after = 39 }) refl refl refl refl));
+      (loops (record { header = 21; merge = 25; next = 24; test = 22; after = 24 }) 23 28 30 35 refl refl
+      (ends (record { end = Test 31 true; next = Some 23; after = 28 }) refl refl refl refl)
+      (ends (record { end = Continue; next = None; after = 30 }) refl refl refl refl)
+      (ends (record { end = Back; next = None; after = 35 }) refl refl refl refl)
+      (ends (record { end = Return; next = None; after = 39 }) refl refl refl refl));
   function_end = refl;
   last = refl;
 }
@@ -64,9 +64,9 @@ f5-derives = record {
   after = 27;
   begins = f5-begins;
   sequence = selects (record { cond = 9; merge = 23; on_true = 21; on_false = 22; after = 19 }) 21 23 refl refl
-        (through (λ is. differ 21 23 refl is) (ends (record { end = Merge; next = None; after = 21 }) refl refl refl refl))
-        (through (λ is. differ 22 23 refl is) (ends (record { end = Merge; next = None; after = 23 }) refl refl refl refl))
-        (ends (record { end = Return; next = None; after = 27 }) refl refl refl refl);
+      (through (λ is. differ 21 23 refl is) (ends (record { end = Merge; next = None; after = 21 }) refl refl refl refl))
+      (through (λ is. differ 22 23 refl is) (ends (record { end = Merge; next = None; after = 23 }) refl refl refl refl))
+      (ends (record { end = Return; next = None; after = 27 }) refl refl refl refl);
   function_end = refl;
   last = refl;
 }
@@ -82,10 +82,10 @@ f7-derives = record {
   after = 27;
   begins = f7-begins;
   sequence = picks (record { selector = 9; merge = 23; default = 22; after = 19 }) 23 refl refl
-        (arm_behind 22 21 (22 ∷ []) (arm_behind 21 19 (22 ∷ 21 ∷ 21 ∷ []) (no_arm refl refl) refl refl
-        (ends (record { end = Merge; next = None; after = 21 }) refl refl refl refl)) refl refl
-        (ends (record { end = Merge; next = None; after = 23 }) refl refl refl refl))
-        (ends (record { end = Return; next = None; after = 27 }) refl refl refl refl);
+      (arm_behind 22 21 (22 ∷ []) (arm_behind 21 19 (22 ∷ 21 ∷ 21 ∷ []) (no_arm refl refl) refl refl
+      (ends (record { end = Merge; next = None; after = 21 }) refl refl refl refl)) refl refl
+      (ends (record { end = Merge; next = None; after = 23 }) refl refl refl refl))
+      (ends (record { end = Return; next = None; after = 27 }) refl refl refl refl);
   function_end = refl;
   last = refl;
 }
@@ -101,11 +101,11 @@ f8-derives = record {
   after = 35;
   begins = f8-begins;
   sequence = goes_on 18 refl refl
-        (loops (record { header = 21; merge = 25; next = 24; test = 22; after = 23 }) 23 26 28 32 refl refl
-        (ends (record { end = Test 34 true; next = Some 23; after = 26 }) refl refl refl refl)
-        (ends (record { end = Continue; next = None; after = 28 }) refl refl refl refl)
-        (ends (record { end = Back; next = None; after = 32 }) refl refl refl refl)
-        (ends (record { end = Return; next = None; after = 35 }) refl refl refl refl));
+      (loops (record { header = 21; merge = 25; next = 24; test = 22; after = 23 }) 23 26 28 32 refl refl
+      (ends (record { end = Test 34 true; next = Some 23; after = 26 }) refl refl refl refl)
+      (ends (record { end = Continue; next = None; after = 28 }) refl refl refl refl)
+      (ends (record { end = Back; next = None; after = 32 }) refl refl refl refl)
+      (ends (record { end = Return; next = None; after = 35 }) refl refl refl refl));
   function_end = refl;
   last = refl;
 }
@@ -121,12 +121,12 @@ f10-derives = record {
   after = 34;
   begins = f10-begins;
   sequence = picks (record { selector = 9; merge = 23; default = 22; after = 23 }) 30 refl refl
-        (arm_behind 22 23 (22 ∷ []) (no_arm refl refl) refl refl
-        (selects (record { cond = 30; merge = 25; on_true = 24; on_false = 25; after = 26 }) 28 28 refl refl
-            (through (λ is. differ 24 25 refl is) (ends (record { end = Leave; next = None; after = 28 }) refl refl refl refl))
-            (straight refl refl)
-            (ends (record { end = Merge; next = None; after = 30 }) refl refl refl refl)))
-        (ends (record { end = Return; next = None; after = 34 }) refl refl refl refl);
+      (arm_behind 22 23 (22 ∷ []) (no_arm refl refl) refl refl
+      (selects (record { cond = 30; merge = 25; on_true = 24; on_false = 25; after = 26 }) 28 28 refl refl
+      (through (λ is. differ 24 25 refl is) (ends (record { end = Leave; next = None; after = 28 }) refl refl refl refl))
+      (straight refl refl)
+      (ends (record { end = Merge; next = None; after = 30 }) refl refl refl refl)))
+      (ends (record { end = Return; next = None; after = 34 }) refl refl refl refl);
   function_end = refl;
   last = refl;
 }
