@@ -52,21 +52,6 @@ add-old rows key row near is = ap (λ (b : Bool). cond b rows (rows ++ key ∷ [
 pub not_among : (rows : List (List ℕ)) (key : List ℕ) (n : ℕ) → n ≡ length rows → NoneBetween rows key 0 n → ¬ Contains rows key
 not_among rows key n long free c = let near = c.1 in free c.0 (omega arith) (omega arith) (get_or_default rows c.0 [] key c.1 ∙ c.2)
 
-pub IfNew-map : (r : Created) (P Q : ℕ → Type 0) → ((n : ℕ) → P n → Q n) → IfNew r P → IfNew r Q
-IfNew-map (New row note) P Q f p = f row p
-IfNew-map (Old row note) P Q f p = tt
-IfNew-map (Full n) P Q f p = tt
-
-pub IfOld-map : (r : Created) (P Q : ℕ → Type 0) → ((n : ℕ) → P n → Q n) → IfOld r P → IfOld r Q
-IfOld-map (New row note) P Q f p = tt
-IfOld-map (Old row note) P Q f p = f row p
-IfOld-map (Full n) P Q f p = tt
-
-pub IfFull-map : (r : Created) (P Q : ℕ → Type 0) → ((n : ℕ) → P n → Q n) → IfFull r P → IfFull r Q
-IfFull-map (New row note) P Q f p = tt
-IfFull-map (Old row note) P Q f p = tt
-IfFull-map (Full n) P Q f p = f n p
-
 -- no room for another row means that some other key was asked
 pub full_never : (asked rows : List (List ℕ)) (key : List ℕ) (room n : ℕ) → AreSound asked room rows → Contains asked key → length asked ≤ room → NoneBetween rows key 0 n → n ≡ length rows → n ≡ room → ⊥
 full_never asked rows key room n sound may fit free long full =

@@ -365,3 +365,6 @@ module _ (asked : List (List ℕ)) (fits : Subject → List ℕ → Type 0) (z :
       (subst (λ (r : Rows). All (λ key. length key ≡ key_words) r.linked) (sym same) x.wide) in
       Claims-fresh c v v.rows.count (words_of_rows 0 v.rows.linked ++ v.known) (omega arith) (omega arith)
       (All-append (IsRight c v.rows.count) (words_of_rows 0 v.rows.linked) v.known right (Claims-seen c v v.rows.count v.looks (omega arith) (omega arith) t).known) t)
+
+pub sound_at : (asked asked' : List (List ℕ)) (room room' : ℕ) (keys : List (List ℕ)) → asked' ≡ asked → room' ≡ room → AreSound asked' room' keys → AreSound asked room keys
+sound_at asked asked' room room' keys e₁ e₂ s = subst (λ (k : List (List ℕ)). AreSound k room keys) e₁ (subst (λ (n : ℕ). AreSound asked' n keys) e₂ s)

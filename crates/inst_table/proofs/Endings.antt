@@ -10,11 +10,11 @@ use Rattle.inst_table.specs.Layout.{key_place}
 use Rattle.inst_table.specs.Chain.{key_at, key_word}
 use Rattle.inst_table.specs.Views.{joint_view, row_note, unit_note, words_of_units}
 use Rattle.inst_table.specs.Units.{IsRecord, heap_of, address_of}
-use Rattle.inst_table.specs.Passes.{KnowsRow, KnowsAddress, KnowsAtLeast, KnowsRecord, FitsKnown}
+use Rattle.inst_table.specs.Passes.{KnowsRow, KnowsRightKeys, KnowsAddress, KnowsAtLeast, KnowsRecord, FitsKnown}
 use Rattle.inst_table.specs.AddressLoads.{LoadsAddress}
 use Rattle.inst_table.specs.Lawful.{AreDistinct}
 use Rattle.inst_table.specs.Plays.{IsOfRows, AreSound, AreSoundUnits}
-use Rattle.inst_table.specs.Closing.{KnowsRightKeys, AgreesWith, IsUnitOf, AreUnitsOf, IsReadUnit, BeginsWith}
+use Rattle.inst_table.specs.Closing.{AgreesWith, IsRecordOf, IsUnitOf, AreUnitsOf, IsReadRecord, IsReadUnit, AreReadUnits, BeginsWith}
 use Rattle.inst_table.specs.declared.setup.Numbers.{Numbers}
 use Rattle.inst_table.specs.declared.closed.Closed.{Closed}
 use Rattle.inst_table.specs.declared.view.View.{View}
@@ -76,27 +76,49 @@ begins_trans a b c x y = (x.0 ++ y.0, y.1 ∙ ap (λ (m : List (ℕ × ℕ)). m 
 
 module _ (fits : Subject → List ℕ → Type 0) (z : Numbers) where
   pub read_none : (z' : Numbers) (u v : View) (row : ℕ) → z ≡ z' → LoadsAddress u v (z'.libraries + row) 0 → IsReadUnit fits z u v row None
-  read_none z' u v row kept h word k = h.same word (subst (λ (q : Numbers). KnowsAddress u (q.libraries + row) word) kept k)
+  read_none z' u v row kept h word k = (h.same word (subst (λ (q : Numbers). KnowsAddress u (q.libraries + row) word) kept k)).0
 
   pub read_some : (z' : Numbers) (u v w : View) (unit row word : ℕ) (items : Vec ℕ Global) → z ≡ z' → unit ≡ z'.libraries + row → LoadsAddress u v (z'.libraries + row) word → word ≢ 0 → KnowsAddress v (z'.libraries + row) word
       → KnowsAtLeast u v → KnowsAtLeast v w → IsRecord items.items → KnowsRecord w word items.items → FitsKnown fits z w unit items.items → IsReadUnit fits z u w row (Some items)
   read_some z' u v w unit row word items kept is h there k a b whole knows f = (
     word,
-    there,
-    subst (λ (q : Numbers). KnowsAddress w (q.libraries + row) word) (sym kept) (b.words (AddressWord (z'.libraries + row) word) k),
-    (λ x c. h.same x (subst (λ (q : Numbers). KnowsAddress u (q.libraries + row) x) kept c)),
-    whole,
-    knows,
-    λ key long c. f.as_pair row key (is ∙ ap (λ (q : Numbers). q.libraries + row) (sym kept)) long (KnowsRow-keeps u w row key (λ x d. b.words x (a.words x d)) c),
+    record {
+      there = there;
+      known = subst (λ (q : Numbers). KnowsAddress w (q.libraries + row) word) (sym kept) (b.words (AddressWord (z'.libraries + row) word) k);
+      same = λ x c. (h.same x (subst (λ (q : Numbers). KnowsAddress u (q.libraries + row) x) kept c)).0;
+      whole = whole;
+      read = knows;
+      fitting = λ key long c. f.as_pair row key (is ∙ ap (λ (q : Numbers). q.libraries + row) (sym kept)) long (KnowsRow-keeps u w row key (λ x d. b.words x (a.words x d)) c);
+    },
   )
 
   pub read_later : (u v w : View) (row : ℕ) (o : Option (Vec ℕ Global)) → KnowsAtLeast v w → IsReadUnit fits z u v row o → IsReadUnit fits z u w row o
   read_later u v w row None t r = r
-  read_later u v w row (Some items) t r = (r.0, r.1, t.words (AddressWord (z.libraries + row) r.0) r.2, r.3, r.4, (λ at h. t.words (HeapWord (r.0 - 1 + at) (get_or items.items at 0)) (r.5 at h)), r.6)
+  read_later u v w row (Some items) t r = let q = r.1 in (
+    r.0,
+    record {
+      there = q.there;
+      known = t.words (AddressWord (z.libraries + row) r.0) q.known;
+      same = q.same;
+      whole = q.whole;
+      read = λ at h. t.words (HeapWord (r.0 - 1 + at) (get_or items.items at 0)) (q.read at h);
+      fitting = q.fitting;
+    },
+  )
 
   pub read_earlier : (u v w : View) (row : ℕ) (o : Option (Vec ℕ Global)) → KnowsAtLeast u v → IsReadUnit fits z v w row o → IsReadUnit fits z u w row o
   read_earlier u v w row None t r = λ word c. r word (t.words (AddressWord (z.libraries + row) word) c)
-  read_earlier u v w row (Some items) t r = (r.0, r.1, r.2, (λ x c. r.3 x (t.words (AddressWord (z.libraries + row) x) c)), r.4, r.5, λ key long c. r.6 key long (KnowsRow-keeps u v row key t.words c))
+  read_earlier u v w row (Some items) t r = let q = r.1 in (
+    r.0,
+    record {
+      there = q.there;
+      known = q.known;
+      same = λ x c. q.same x (t.words (AddressWord (z.libraries + row) x) c);
+      whole = q.whole;
+      read = q.read;
+      fitting = λ key long c. q.fitting key long (KnowsRow-keeps u v row key t.words c);
+    },
+  )
 
   pub read_more : (u v w : View) (units more : List (Option (Vec ℕ Global))) (row : ℕ) (o : Option (Vec ℕ Global)) → length units ≡ row → KnowsAtLeast u v → KnowsAtLeast v w → more ≡ units ++ o ∷ []
       → ((k : ℕ) → k < row → IsReadUnit fits z u v k (get_or units k None)) → IsReadUnit fits z v w row o → (k : ℕ) → k < row + 1 → IsReadUnit fits z u w k (get_or more k None)
@@ -110,17 +132,22 @@ module _ (fits : Subject → List ℕ → Type 0) (z : Numbers) where
   unit_of u v rows us row None all knows long a r = dite (ℕ_discrete (address_of us (z.libraries + row)) 0) (λ e. e)
       (λ ne. absurd (ne (sym (r (address_of us (z.libraries + row)) (all (z.libraries + row) (address_of us (z.libraries + row)) refl ne)))))
   unit_of u v rows us row (Some items) all knows long a r =
-      let e : address_of us (z.libraries + row) ≡ r.0 = (a.addresses (z.libraries + row) r.0 r.2).1 in
-      ((λ y. r.1 (sym e ∙ y)), r.4, (λ at h. a.heap (r.0 - 1 + at) (get_or items.items at 0) (r.5 at h) ∙ ap (λ (w : ℕ). get_or (heap_of us) (w - 1 + at) 0) (sym e)), r.6 (key_at rows row) long knows)
+      let q = r.1 in
+      let e : address_of us (z.libraries + row) ≡ r.0 = (a.addresses (z.libraries + row) r.0 q.known).1 in record {
+        built = λ y. q.there (sym e ∙ y);
+        whole = q.whole;
+        stored = λ at h. a.heap (r.0 - 1 + at) (get_or items.items at 0) (q.read at h) ∙ ap (λ (w : ℕ). get_or (heap_of us) (w - 1 + at) 0) (sym e);
+        fitting = q.fitting (key_at rows row) long knows;
+      }
 
   pub units_are : (u v : View) (rows : List (List ℕ)) (us : List Unit) (units : List (Option (Vec ℕ Global))) (count : ℕ) → ((unit word : ℕ) → address_of us unit ≡ word → word ≢ 0 → KnowsAddress u unit word)
       → ((row : ℕ) → row < count → KnowsRow u row (key_at rows row)) → All (λ key. length key ≡ key_words) rows → length rows ≡ count
-      → (length units ≡ count) × ((row : ℕ) → row < count → IsReadUnit fits z u v row (get_or units row None)) → AgreesWith v rows us → AreUnitsOf fits z.libraries rows us units
-  units_are u v rows us units count all knows wide long r a = (
-    r.0 ∙ sym long,
-    λ row h. let near : row < count = omega arith in
-        unit_of u v rows us row (get_or units row None) all (knows row near) (wide row [] h) a (r.1 row near),
-  )
+      → AreReadUnits fits z u v count units → AgreesWith v rows us → AreUnitsOf fits z.libraries rows us units
+  units_are u v rows us units count all knows wide long r a = record {
+    long = r.long ∙ sym long;
+    each = λ row h. let near : row < count = omega arith in
+        unit_of u v rows us row (get_or units row None) all (knows row near) (wide row [] h) a (r.each row near);
+  }
 
 -- ---- what the pass knows that has taken in the notes of both
 
@@ -134,6 +161,5 @@ pub units_known : (s note w : View) → note ≡ unit_note s → KnowsAtLeast no
 units_known s note w is t unit word e there = t.words (AddressWord unit word)
     (subst (λ (v : View). KnowsAddress v unit word) (sym is) (Contains-append_left (words_of_units 0 s.units.built) s.known (AddressWord unit word) (unit_contains 0 s.units.built unit word e there)))
 
-pub sound_rows : {E : Type 0} (r : Result Closed E) (asked rows : List (List ℕ)) (room : ℕ) → IfOk r (λ c. c.rows.items ≡ rows) → AreSound asked room rows → IfOk r (λ c. AreDistinct c.rows.items [] × All (Contains asked) c.rows.items)
-sound_rows (Ok c) asked rows room e s = (subst (λ (xs : List (List ℕ)). AreDistinct xs []) (sym e) s.distinct, subst (λ (xs : List (List ℕ)). All (Contains asked) xs) (sym e) s.asked_for)
-sound_rows (Err x) asked rows room e s = tt
+pub sound_rows : (asked rows : List (List ℕ)) (keys : List (List ℕ)) (room : ℕ) → keys ≡ rows → AreSound asked room rows → AreSound asked room keys
+sound_rows asked rows keys room e s = subst (λ (xs : List (List ℕ)). AreSound asked room xs) (sym e) s

@@ -4,9 +4,10 @@ use Rattle.std.proofs.lemmas.List.Elements.{Contains-append_left, Contains-appen
 use Rattle.atomic_table.specs.Table.{Me}
 use Rattle.inst_table.specs.Subject.{Subject}
 use Rattle.inst_table.specs.Views.{with_address_load, known_with_address, with_known, joint_view, unit_note, words_of_units, with_unit}
-use Rattle.inst_table.specs.Passes.{KnowsAddress, KnowsAtLeast, IsKnownUnit, MayPublish, FitsKnown, KnowsRecord, IsInRecord, LearnsWords}
+use Rattle.inst_table.specs.Passes.{KnowsAddress, IsTheKnownAddress, KnowsAtLeast, IsKnownUnit, MayPublish, FitsKnown, KnowsRecord, IsInRecord, LearnsWords}
 use Rattle.inst_table.specs.AddressLoads.{LoadsAddress}
 use Rattle.inst_table.specs.Lawful.{IsOneWay}
+use Rattle.inst_table.specs.Plays.{AreSoundUnits}
 use Rattle.inst_table.specs.Units.{IsRecord, heap_of, address_of}
 use Rattle.inst_table.specs.declared.setup.Numbers.{Numbers}
 use Rattle.inst_table.specs.declared.view.View.{View}
@@ -25,11 +26,10 @@ addressed_keeps : (unit word : ℕ) (known : List KnownWord) (k : KnownWord) →
 addressed_keeps unit zero known k c = c
 addressed_keeps unit (suc place) known k c = contains-there known (AddressWord unit (suc place)) k c
 
-pub hears_all : (x y : Me ℕ View) (unit found word : ℕ) → found ≡ word → y ≡ (with_address_load unit found x.0, x.1) → ((known : ℕ) → KnowsAddress x.0 unit known → (found ≡ known) × (known ≢ 0)) → IsOneWay y.0.address_loads → LoadsAddress x.0 y.0 unit word
+pub hears_all : (x y : Me ℕ View) (unit found word : ℕ) → found ≡ word → y ≡ (with_address_load unit found x.0, x.1) → IsTheKnownAddress x.0 unit found → IsOneWay y.0.address_loads → LoadsAddress x.0 y.0 unit word
 hears_all x y unit found word e is same one = record {
   address_loads = ap (λ (m : Me ℕ View). m.0.address_loads) is ∙ ap (λ (w : ℕ). x.0.address_loads ++ (unit, w) ∷ []) e;
-  same = λ known k. sym e ∙ (same known k).0;
-  there = λ known k. (same known k).1;
+  same = λ known k. (sym e ∙ (same known k).0, (same known k).1);
   one_way = one;
 }
 
@@ -131,6 +131,11 @@ taken x y by is = record {
   knows = (knows_both x y by is).1;
 }
 
+-- the address word that the publisher finds then
+pub found_word : (asked : List (List ℕ)) (fits : Subject → List ℕ → Type 0) (longest : Subject → ℕ) (z : Numbers) (x y : Me ℕ View) (by : View) (unit word : ℕ) (words : List ℕ) → y ≡ (joint_view x.0 by, x.1)
+    → MayPublish fits z by unit words → AreSoundUnits asked fits longest z y.0 → (unit < z.libraries + z.rows → word ≡ address_of y.0.units.built unit) → word ≡ address_of y.0.units.built unit
+found_word asked fits longest z x y by unit word words is may s found = found (s.inside unit (is_known fits z y.0 unit words (may_still fits z x y by unit words is may)))
+
 pub note_of : (by s u : View) (unit word : ℕ) → KnowsAtLeast by s → u ≡ unit_note s → address_of s.units.built unit ≡ word → word ≢ 0 → KnowsAtLeast by u × KnowsAddress u unit word
 note_of by s u unit word t is at there =
     let P : View → Type 0 = λ v. KnowsAtLeast by v × KnowsAddress v unit word in
@@ -165,17 +170,17 @@ pub note_of_accepted : (by u : View) (y s w : Me ℕ View) (unit word : ℕ) (wo
 note_of_accepted by u y s w unit word words same t new is gap at = note_of_new by u y w unit word words t (new ∙ (λ i. (with_unit unit words (same i).0, (same i).1))) is gap at
 
 -- The publisher once a record was accepted.
-pub record Accepts (x v : Me ℕ View) (unit : ℕ) (words : List ℕ) : Type 0 where
+pub record AfterAccepting (x v : Me ℕ View) (unit : ℕ) (words : List ℕ) : Type 0 where
   pub rights : v.1 ≡ x.1
   pub publishes : v.0.publishes ≡ x.0.publishes
   pub partly : v.0.units.partly ≡ []
   pub built : v.0.units.built ≡ x.0.units.built ++ (record { number = unit; words = words }) ∷ []
   pub heap : length (heap_of v.0.units.built) ≡ length (heap_of x.0.units.built) + length words
 
-pub accepts : (x y s w v : Me ℕ View) (by : View) (unit : ℕ) (words : List ℕ) → y ≡ (joint_view x.0 by, x.1) → s ≡ y → w ≡ (with_unit unit words s.0, s.1) → v ≡ w → Accepts x v unit words
+pub accepts : (x y s w v : Me ℕ View) (by : View) (unit : ℕ) (words : List ℕ) → y ≡ (joint_view x.0 by, x.1) → s ≡ y → w ≡ (with_unit unit words s.0, s.1) → v ≡ w → AfterAccepting x v unit words
 accepts x y s w v by unit words e₁ e₂ e₃ e₄ =
     let m : Me ℕ View = (with_unit unit words (joint_view x.0 by), x.1) in
     let e : v ≡ m = e₄ ∙ e₃ ∙ (λ i. (with_unit unit words (e₂ i).0, (e₂ i).1)) ∙ (λ i. (with_unit unit words (e₁ i).0, (e₁ i).1)) in
     let u : Unit = record { number = unit; words = words } in
     let long : length (heap_of (x.0.units.built ++ u ∷ [])) ≡ length (heap_of x.0.units.built) + length words = ap length (heap_of-push x.0.units.built u) ∙ length-append (heap_of x.0.units.built) words in
-    subst (λ (k : Me ℕ View). Accepts x k unit words) (sym e) (record { rights = refl; publishes = refl; partly = refl; built = refl; heap = long })
+    subst (λ (k : Me ℕ View). AfterAccepting x k unit words) (sym e) (record { rights = refl; publishes = refl; partly = refl; built = refl; heap = long })

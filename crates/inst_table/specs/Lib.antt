@@ -6,8 +6,10 @@ pub mod Units
 pub mod Views
 pub mod Lawful
 pub mod Passes
+pub mod Writers
 pub mod Plays
 pub mod Names
+pub mod Tables
 pub mod Find
 pub mod Creations
 pub mod AddressLoads

@@ -1,6 +1,7 @@
 -- What a clause reads of a table and of its seats.
-use Rattle.std.specs.Prelude.{ℕ, List}
+use Rattle.std.specs.Prelude.{◌≡◌, ℕ, List}
 use Rattle.atomic_table.specs.Seated.{TableId}
+use Rattle.inst_table.specs.Subject.{Subject}
 use Rattle.inst_table.specs.declared.setup.Numbers.{Numbers}
 use Rattle.inst_table.specs.declared.setup.Fit.{Ghosts}
 use Rattle.inst_table.specs.declared.table.Table.{Table}
@@ -43,3 +44,24 @@ module _ {F : Type 0} {G : Ghosts F} where
 
   abbrev pub numbers_of : Table F G → Numbers
   numbers_of table = table.words.shared.key.numbers
+
+  -- how many rows there is room for, and how many heap words
+  abbrev pub room_of : Table F G → ℕ
+  room_of table = (numbers_of table).rows
+
+  abbrev pub heap_room_of : Table F G → ℕ
+  heap_room_of table = (numbers_of table).heap
+
+  -- the keys that may be asked, the records that fit a unit, and the greatest length of one
+  abbrev pub asked_of : Table F G → List (List ℕ)
+  asked_of table = G.asked (fit_of table)
+
+  abbrev pub fits_of : Table F G → Subject → List ℕ → Type 0
+  fits_of table = G.fits (fit_of table)
+
+  abbrev pub longest_of : Table F G → Subject → ℕ
+  longest_of table = G.longest (fit_of table)
+
+  -- The seats belong to the table.
+  abbrev pub ArePartsOf : Table F G → Creator → Publisher → Pass → Type 0
+  ArePartsOf table creator publisher pass = (home_of pass ≡ id_of table) × (creator_home_of creator ≡ id_of table) × (publisher_home_of publisher ≡ id_of table)

@@ -4,31 +4,34 @@ use Rattle.atomic_table.specs.Table.{Me, Step}
 use Rattle.inst_table.specs.Bucket.{key_words, buckets}
 use Rattle.inst_table.specs.Layout.{head_place, key_place, next_place, address_place, heap_place}
 use Rattle.inst_table.specs.Chain.{key_word, bucket_at, newest}
-use Rattle.inst_table.specs.Views.{with_seen, with_walk, with_known, with_rows, rows_with_word, rows_with_next, rows_with_head, with_count, with_address_load, with_units, units_with_word, units_with_address}
+use Rattle.inst_table.specs.Views.{with_seen, with_walk, with_known, with_key_word, with_next, with_head, with_count, with_address_load, with_record_word, with_heap_word, with_address}
 use Rattle.inst_table.specs.Subject.{Subject, all_subjects}
 use Rattle.inst_table.specs.Units.{IsRecord, heap_of, address_of, total}
 use Rattle.inst_table.specs.declared.setup.Numbers.{Numbers}
 use Rattle.inst_table.specs.declared.view.Units.{Units}
-use Rattle.inst_table.specs.Closing.{KnowsRightKeys}
 use Rattle.inst_table.specs.Lawful.{AreDistinct, IsOneWay}
 use Rattle.inst_table.specs.declared.view.Rows.{Rows}
-use Rattle.inst_table.specs.Passes.{KnowsNoRow, KnowsAddress, KnowsRecord, FitsKnown, MayPublish, IsKnownUnit}
+use Rattle.inst_table.specs.Passes.{KnowsNoRow, KnowsRightKeys, KnowsAddress, IsTheKnownAddress, FitsOnceKnown, MayPublish, IsKnownUnit}
 use Rattle.inst_table.specs.declared.view.View.{View}
 use Rattle.inst_table.specs.declared.view.KnownWord.TheVariants.{KeyWord, HeapWord}
 
 abbrev pub SeatState : Type 0
 SeatState = Me ℕ View
 
+-- The view goes to f of it. What slots the seat has taken stays.
+abbrev pub Becomes : (View → View) → SeatState → SeatState → Type 0
+Becomes f m n = n ≡ (f m.0, m.1)
+
 abbrev pub Play : Type 1
 Play = Step ℕ → SeatState → ℕ → SeatState → Type 0
 
 -- a load of the count
 abbrev pub CountLoad : ℕ → Play
-CountLoad room st m r n = (n ≡ (with_seen r m.0, m.1)) × (m.0.seen ≤ r) × (r < 2 ^ 32) × (r ≤ room)
+CountLoad room st m r n = Becomes (with_seen r) m n × (m.0.seen ≤ r) × (r < 2 ^ 32) × (r ≤ room)
 
 -- a look-up of the key among the rows below n comes to a row or to the end, where no row that is known has the key
 abbrev pub HeadLoad : ℕ → List ℕ → ℕ → Play
-HeadLoad room key below st m r n = (n ≡ (with_walk key below r m.0, m.1)) × (r ≤ room) × (r ≡ 0 → KnowsNoRow m.0 key)
+HeadLoad room key below st m r n = Becomes (with_walk key below r) m n × (r ≤ room) × (r ≡ 0 → KnowsNoRow m.0 key)
 
 -- a load of a next word, below the row
 abbrev pub NextLoad : ℕ → List ℕ → ℕ → Play
@@ -36,7 +39,7 @@ NextLoad room key below st m r n = HeadLoad room key below st m r n × ((row : �
 
 -- a load of a key word
 abbrev pub KeyWordLoad : Play
-KeyWordLoad st m r n = (row at : ℕ) → at < key_words → st.word ≡ key_place row at → n ≡ (with_known (KeyWord row at r) m.0, m.1)
+KeyWordLoad st m r n = (row at : ℕ) → at < key_words → st.word ≡ key_place row at → Becomes (with_known (KeyWord row at r)) m n
 
 -- A word of the rows is what their keys and chains say.
 pub record IsOfRows (x : Rows) (word found : ℕ) : Type 0 where
@@ -57,25 +60,24 @@ RowReload asked room st m r n = (n ≡ m) × IsOfRows m.0.rows st.word r × AreS
 
 -- the stores of the creator: of a key word, of a next word, of a bucket head and of the count
 abbrev pub KeyWordStore : Play
-KeyWordStore st m r n = n ≡ (with_rows (rows_with_word st.first m.0.rows) m.0, m.1)
+KeyWordStore st m r n = Becomes (with_key_word st.first) m n
 
 abbrev pub NextStore : Play
-NextStore st m r n = n ≡ (with_rows (rows_with_next m.0.rows) m.0, m.1)
+NextStore st m r n = Becomes with_next m n
 
 abbrev pub HeadStore : Play
-HeadStore st m r n = n ≡ (with_rows (rows_with_head m.0.rows) m.0, m.1)
+HeadStore st m r n = Becomes with_head m n
 
 abbrev pub CountStore : Play
-CountStore st m r n = n ≡ (with_count m.0, m.1)
+CountStore st m r n = Becomes with_count m n
 
 -- a load of the address word of a unit, which is the one that is known
 abbrev pub AddressLoad : ℕ → Play
-AddressLoad unit st m r n = (n ≡ (with_address_load unit r m.0, m.1)) × ((word : ℕ) → KnowsAddress m.0 unit word → (r ≡ word) × (word ≢ 0)) × IsOneWay n.0.address_loads
+AddressLoad unit st m r n = Becomes (with_address_load unit r) m n × IsTheKnownAddress m.0 unit r × IsOneWay n.0.address_loads
 
 -- a load of a word of the record at an address word: whatever record is then known whole fits the unit
 abbrev pub HeapLoad : (Subject → List ℕ → Type 0) → Numbers → ℕ → ℕ → ℕ → Play
-HeapLoad fits z unit word at st m r n = (n ≡ (with_known (HeapWord (word - 1 + at) r) m.0, m.1)) × (r < 2 ^ 32)
-    × ((words : List ℕ) → KnowsRecord n.0 word words → IsRecord words → FitsKnown fits z n.0 unit words)
+HeapLoad fits z unit word at st m r n = Becomes (with_record_word word at r) m n × (r < 2 ^ 32) × FitsOnceKnown fits z n.0 unit word
 
 -- A word of the units is what they say.
 pub record IsOfUnits (z : Numbers) (y : Units) (word found : ℕ) : Type 0 where
@@ -101,10 +103,10 @@ UnitReload asked fits longest z st m r n = (n ≡ m) × IsOfUnits z m.0.units st
 
 -- the stores of the publisher: of a heap word and of an address word
 abbrev pub HeapStore : Play
-HeapStore st m r n = n ≡ (with_units (units_with_word st.first m.0.units) m.0, m.1)
+HeapStore st m r n = Becomes (with_heap_word st.first) m n
 
 abbrev pub AddressStore : ℕ → Play
-AddressStore unit st m r n = n ≡ (with_units (units_with_address unit m.0.units) m.0, m.1)
+AddressStore unit st m r n = Becomes (with_address unit) m n
 
 -- what a `Fit` value says, where there is one
 abbrev pub asked_by : {F : Type 0} → (F → List (List ℕ)) → Option F → List (List ℕ)

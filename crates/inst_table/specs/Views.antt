@@ -1,12 +1,12 @@
 -- What a seat knows, and how a step adds to it.
-use Rattle.std.specs.Prelude.{ℕ, zero, suc, ◌+◌, List, [], ◌∷◌, ◌++◌, length, max, true, false, None, Some}
+use Rattle.std.specs.Prelude.{ℕ, zero, suc, ◌+◌, ◌-◌, List, [], ◌∷◌, ◌++◌, length, max, true, false, None, Some}
 use Rattle.inst_table.specs.Bucket.{bucket_of}
 use Rattle.inst_table.specs.declared.view.View.{View}
 use Rattle.inst_table.specs.declared.view.Rows.{Rows}
 use Rattle.inst_table.specs.declared.view.Unit.{Unit}
 use Rattle.inst_table.specs.declared.view.Units.{Units}
 use Rattle.inst_table.specs.declared.view.KnownWord.{KnownWord}
-use Rattle.inst_table.specs.declared.view.KnownWord.TheVariants.{KeyWord, AddressWord}
+use Rattle.inst_table.specs.declared.view.KnownWord.TheVariants.{KeyWord, AddressWord, HeapWord}
 
 abbrev pub no_rows : Rows
 no_rows = record { count = 0; linked = []; draft = []; joined = false }
@@ -45,6 +45,10 @@ with_walk key n place v = record v {
 abbrev pub with_known : KnownWord → View → View
 with_known word v = record v { known = word ∷ v.known }
 
+-- a word of the record at an address word
+abbrev pub with_record_word : ℕ → ℕ → ℕ → View → View
+with_record_word address at word v = with_known (HeapWord (address - 1 + at) word) v
+
 abbrev pub known_with_address : ℕ → ℕ → List KnownWord → List KnownWord
 known_with_address unit zero known = known
 known_with_address unit (suc place) known = AddressWord unit (suc place) ∷ known
@@ -53,7 +57,7 @@ known_with_address unit (suc place) known = AddressWord unit (suc place) ∷ kno
 abbrev pub with_address_load : ℕ → ℕ → View → View
 with_address_load unit word v = record v { address_loads = v.address_loads ++ (unit, word) ∷ []; known = known_with_address unit word v.known }
 
--- what the creator knows once it has stored a key word, the next word, the bucket head and the count
+-- what the creator knows of the rows once it has stored a key word, the next word and the bucket head
 abbrev pub with_rows : Rows → View → View
 with_rows rows v = record v { rows = rows }
 
@@ -66,10 +70,24 @@ rows_with_next rows = record rows { joined = true }
 abbrev pub rows_with_head : Rows → Rows
 rows_with_head rows = record rows { linked = rows.linked ++ rows.draft ∷ []; draft = []; joined = false }
 
+abbrev pub with_key_word : ℕ → View → View
+with_key_word word v = with_rows (rows_with_word word v.rows) v
+
+-- all words of a key
+abbrev pub with_key : List ℕ → View → View
+with_key key v = with_rows (record v.rows { draft = key }) v
+
+abbrev pub with_next : View → View
+with_next v = with_rows (rows_with_next v.rows) v
+
+abbrev pub with_head : View → View
+with_head v = with_rows (rows_with_head v.rows) v
+
+-- and the count
 abbrev pub with_count : View → View
 with_count v = record v { seen = v.rows.count + 1; rows = record v.rows { count = v.rows.count + 1 } }
 
--- what the publisher knows once it has stored a heap word, and the address word
+-- what the publisher knows of the units once it has stored a heap word, and the address word
 abbrev pub with_units : Units → View → View
 with_units units v = record v { units = units }
 
@@ -78,6 +96,16 @@ units_with_word word units = record units { partly = units.partly ++ word ∷ []
 
 abbrev pub units_with_address : ℕ → Units → Units
 units_with_address number units = record { built = units.built ++ (record { number = number; words = units.partly }) ∷ []; partly = [] }
+
+abbrev pub with_heap_word : ℕ → View → View
+with_heap_word word v = with_units (units_with_word word v.units) v
+
+-- all words of a record
+abbrev pub with_record : List ℕ → View → View
+with_record words v = with_units (record v.units { partly = words }) v
+
+abbrev pub with_address : ℕ → View → View
+with_address unit v = with_units (units_with_address unit v.units) v
 
 -- the words of a row
 abbrev pub words_of_row : ℕ → ℕ → List ℕ → List KnownWord

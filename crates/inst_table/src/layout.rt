@@ -4,7 +4,7 @@ ghost use Rattle.std.specs.Prelude.{◌≡◌, ◌+◌, ◌-◌, ◌^◌, ◌<�
 ghost use Rattle.std.specs.Int.{to_le_bytes};
 ghost use mir.Syntax.{w64};
 ghost use Rattle.inst_table.specs.Bucket.{key_words, buckets, bucket_of};
-ghost use Rattle.inst_table.specs.Layout.{count_place, head_place, key_place, next_place, row_place, width, address_place, heap_place};
+ghost use Rattle.inst_table.specs.Layout.{head_place, key_place, next_place, row_place, width, heap_place, AreSmall, IsAddressPlace, IsRecordPlace};
 
 use crate::setup::Numbers;
 use crate::{BUCKETS, KEY_WORDS};
@@ -68,7 +68,7 @@ pub fn next_place(row: usize) -> usize
 }
 
 pub fn width(numbers: &Numbers) -> usize
-    requires { (numbers.now.libraries + numbers.now.rows < 2 ^ 32) × (numbers.now.heap < 2 ^ 62) }
+    requires { AreSmall numbers.now }
     ensures { result ≡ width numbers.now }
 {
     let units = numbers.libraries as usize + numbers.rows as usize;
@@ -77,9 +77,9 @@ pub fn width(numbers: &Numbers) -> usize
 
 // The place of a unit's address word, if there is such a unit, and else some place.
 pub fn address_place(numbers: &Numbers, unit: u32) -> usize
-    requires { (numbers.now.libraries + numbers.now.rows < 2 ^ 32) × (numbers.now.heap < 2 ^ 62) }
+    requires { AreSmall numbers.now }
     ensures inside { result < width numbers.now }
-    ensures value { unit < numbers.now.libraries + numbers.now.rows → result ≡ address_place numbers.now unit }
+    ensures value { IsAddressPlace numbers.now unit result }
 {
     if unit < numbers.libraries + numbers.rows {
         row_place(numbers.rows as usize) + unit as usize
@@ -90,7 +90,7 @@ pub fn address_place(numbers: &Numbers, unit: u32) -> usize
 
 // The place of a heap word, if there is such a word, and else some place.
 pub fn heap_place(numbers: &Numbers, at: u64) -> usize
-    requires { (numbers.now.libraries + numbers.now.rows < 2 ^ 32) × (numbers.now.heap < 2 ^ 62) }
+    requires { AreSmall numbers.now }
     ensures inside { result < width numbers.now }
     ensures value { at < numbers.now.heap → result ≡ heap_place numbers.now at }
 {
@@ -104,9 +104,9 @@ pub fn heap_place(numbers: &Numbers, at: u64) -> usize
 
 // The place of a word of the record at an address word.
 pub fn record_place(numbers: &Numbers, word: u64, at: u64) -> usize
-    requires { (numbers.now.libraries + numbers.now.rows < 2 ^ 32) × (numbers.now.heap < 2 ^ 62) }
+    requires { AreSmall numbers.now }
     ensures inside { result < width numbers.now }
-    ensures value { 1 ≤ word → word - 1 + at < numbers.now.heap → result ≡ heap_place numbers.now (word - 1 + at) }
+    ensures value { IsRecordPlace numbers.now word at result }
 {
     let start = word.saturating_sub(1);
     heap_place(numbers, start.saturating_add(at))

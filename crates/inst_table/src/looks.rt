@@ -1,8 +1,9 @@
 // The loads of a look-up.
-ghost use Rattle.std.specs.Prelude.{◌≡◌, ◌≢◌, ℕ, suc, ◌+◌, ◌-◌, ◌≤◌, ◌<◌, ◌⊎◌, [], Some, true, false, length, Contains, MatchBool, MatchOption};
+ghost use Rattle.std.specs.Prelude.{◌≡◌, ◌≢◌, ℕ, suc, ◌+◌, ◌-◌, ◌≤◌, ◌<◌, ◌⊎◌, [], true, false, length};
 ghost use Rattle.inst_table.specs.Bucket.{key_words, bucket_of};
 ghost use Rattle.inst_table.specs.Views.{with_seen, with_walk, with_known};
-ghost use Rattle.inst_table.specs.Passes.{KnowsRow, KnowsNoRow, KnowsDifference, LearnsRow, FollowsChain, IsPassed};
+ghost use Rattle.inst_table.specs.Plays.{Becomes};
+ghost use Rattle.inst_table.specs.Passes.{KnowsNoRow, LearnsRow, FollowsChain, IsPassed, ComparesRow, FindsRow, StandsAt, EndsLookUp};
 ghost use Rattle.inst_table.specs.declared.view.KnownWord.TheVariants.{KeyWord};
 
 use crate::KEY_WORDS;
@@ -12,15 +13,15 @@ use crate::setup::Fit;
 use crate::table::Table;
 
 impl<F: Fit> Table<F> {
-    ghost use Rattle.inst_table.specs.Names.{id_of, numbers_of};
+    ghost use Rattle.inst_table.specs.Names.{id_of, room_of};
 
     pub(crate) fn count<K: LookUpOperands>(&self, seat: &mut Seat) -> u32
         requires table { seat.old.table_id ≡ id_of self.now }
-        requires room { K.room ≡ (numbers_of self.now).rows }
+        requires room { K.room ≡ room_of self.now }
         ensures table { seat.new.table_id ≡ seat.old.table_id }
-        ensures view { seat.new.me ≡ (with_seen result seat.old.me.0, seat.old.me.1) }
+        ensures view { Becomes (with_seen result) seat.old.me seat.new.me }
         ensures later { seat.old.me.0.seen ≤ result }
-        ensures room { result ≤ (numbers_of self.now).rows }
+        ensures inside { result ≤ room_of self.now }
     {
         self.words.shared.load::<LoadsCount<K>>(seat, COUNT) as u32
     }
@@ -28,10 +29,12 @@ impl<F: Fit> Table<F> {
     // 1 plus the newest row of the key's bucket, or 0.
     fn head<K: LookUpOperands>(&self, seat: &mut Seat, key: &[u64; KEY_WORDS]) -> u64
         requires table { seat.old.table_id ≡ id_of self.now }
-        requires operands { (K.room ≡ (numbers_of self.now).rows) × (K.key ≡ key.now) × (K.below ≡ seat.old.me.0.seen) }
+        requires room { K.room ≡ room_of self.now }
+        requires key { K.key ≡ key.now }
+        requires below { K.below ≡ seat.old.me.0.seen }
         ensures table { seat.new.table_id ≡ seat.old.table_id }
-        ensures view { seat.new.me ≡ (with_walk K.key K.below result seat.old.me.0, seat.old.me.1) }
-        ensures room { result ≤ K.room }
+        ensures view { Becomes (with_walk K.key K.below result) seat.old.me seat.new.me }
+        ensures inside { result ≤ K.room }
         ensures misses { result ≡ 0 → KnowsNoRow seat.old.me.0 K.key }
     {
         self.words
@@ -42,11 +45,13 @@ impl<F: Fit> Table<F> {
     // 1 plus the newest row of the bucket below this one, or 0.
     fn next<K: LookUpOperands>(&self, seat: &mut Seat, row: usize) -> u64
         requires table { seat.old.table_id ≡ id_of self.now }
-        requires operands { (K.room ≡ (numbers_of self.now).rows) × (length K.key ≡ key_words) × (K.below ≡ seat.old.me.0.seen) × (row < K.room) }
-        requires stands { seat.old.me.0.walk ≡ Some (record { key = K.key; below = K.below; place = row + 1 }) }
+        requires room { (K.room ≡ room_of self.now) × (row < K.room) }
+        requires key { length K.key ≡ key_words }
+        requires below { K.below ≡ seat.old.me.0.seen }
+        requires stands { StandsAt seat.old.me.0 K.key K.below row }
         requires passed { IsPassed seat.old.me.0 row K.key K.below }
         ensures table { seat.new.table_id ≡ seat.old.table_id }
-        ensures view { seat.new.me ≡ (with_walk K.key K.below result seat.old.me.0, seat.old.me.1) }
+        ensures view { Becomes (with_walk K.key K.below result) seat.old.me seat.new.me }
         ensures below { result ≤ row }
         ensures misses { result ≡ 0 → KnowsNoRow seat.old.me.0 K.key }
     {
@@ -57,9 +62,10 @@ impl<F: Fit> Table<F> {
 
     fn key_word(&self, seat: &mut Seat, row: usize, at: usize) -> u64
         requires table { seat.old.table_id ≡ id_of self.now }
-        requires row { (row < seat.old.me.0.seen) × (row < (numbers_of self.now).rows) × (at < key_words) }
+        requires row { (row < seat.old.me.0.seen) × (row < room_of self.now) }
+        requires at { at < key_words }
         ensures table { seat.new.table_id ≡ seat.old.table_id }
-        ensures view { seat.new.me ≡ (with_known (KeyWord row at result) seat.old.me.0, seat.old.me.1) }
+        ensures view { Becomes (with_known (KeyWord row at result)) seat.old.me seat.new.me }
     {
         self.words
             .shared
@@ -68,10 +74,11 @@ impl<F: Fit> Table<F> {
 
     fn has_key(&self, seat: &mut Seat, row: usize, key: &[u64; KEY_WORDS]) -> bool
         requires table { seat.old.table_id ≡ id_of self.now }
-        requires row { (row < seat.old.me.0.seen) × (row < (numbers_of self.now).rows) }
+        requires row { (row < seat.old.me.0.seen) × (row < room_of self.now) }
         ensures table { seat.new.table_id ≡ seat.old.table_id }
-        ensures learns { LearnsRow seat.old.me.0 row seat.new.me.0 × (seat.new.me.1 ≡ seat.old.me.1) }
-        ensures answer { MatchBool result (KnowsRow seat.new.me.0 row key.now) (KnowsDifference seat.new.me.0 row key.now) }
+        ensures rights { seat.new.me.1 ≡ seat.old.me.1 }
+        ensures learns { LearnsRow seat.old.me.0 row seat.new.me.0 }
+        ensures answer { ComparesRow seat.new.me.0 row key.now result }
     {
         for (at, word) in key.iter().enumerate() {
             if self.key_word(seat, row, at) != *word {
@@ -84,10 +91,12 @@ impl<F: Fit> Table<F> {
     // Whether the row is one of those below the count, and has the key.
     fn is_found(&self, seat: &mut Seat, row: usize, key: &[u64; KEY_WORDS], count: u32) -> bool
         requires table { seat.old.table_id ≡ id_of self.now }
-        requires row { (seat.old.me.0.seen ≡ count) × (row < (numbers_of self.now).rows) }
+        requires count { seat.old.me.0.seen ≡ count }
+        requires row { row < room_of self.now }
         ensures table { seat.new.table_id ≡ seat.old.table_id }
-        ensures learns { LearnsRow seat.old.me.0 row seat.new.me.0 × (seat.new.me.1 ≡ seat.old.me.1) }
-        ensures answer { MatchBool result ((row < count) × KnowsRow seat.new.me.0 row key.now) (IsPassed seat.new.me.0 row key.now count) }
+        ensures rights { seat.new.me.1 ≡ seat.old.me.1 }
+        ensures learns { LearnsRow seat.old.me.0 row seat.new.me.0 }
+        ensures answer { FindsRow seat.new.me.0 row key.now count result }
     {
         if row >= count as usize {
             return false;
@@ -103,10 +112,13 @@ impl<F: Fit> Table<F> {
         count: u32,
     ) -> Option<u32>
         requires table { seat.old.table_id ≡ id_of self.now }
-        requires operands { (K.room ≡ (numbers_of self.now).rows) × (K.key ≡ key.now) × (K.below ≡ count) × (seat.old.me.0.seen ≡ count) }
+        requires room { K.room ≡ room_of self.now }
+        requires key { K.key ≡ key.now }
+        requires below { (K.below ≡ count) × (seat.old.me.0.seen ≡ count) }
         ensures table { seat.new.table_id ≡ seat.old.table_id }
-        ensures follows { FollowsChain seat.old.me.0 seat.new.me.0 key.now × (seat.new.me.1 ≡ seat.old.me.1) }
-        ensures answer { MatchOption result (Contains seat.new.me.0.absent (key.now, count) × KnowsNoRow seat.old.me.0 key.now) (λ row. (row < count) × KnowsRow seat.new.me.0 row key.now) }
+        ensures rights { seat.new.me.1 ≡ seat.old.me.1 }
+        ensures follows { FollowsChain seat.old.me.0 seat.new.me.0 key.now }
+        ensures answer { EndsLookUp seat.old.me.0 seat.new.me.0 key.now count result }
     {
         let mut place = self.head::<K>(seat, key);
         while place != 0 {

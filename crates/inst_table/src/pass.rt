@@ -1,10 +1,7 @@
 //! What reads a table.
-ghost use Rattle.std.specs.Prelude.{◌≡◌, ◌≢◌, ℕ, suc, ◌+◌, ◌-◌, ◌≤◌, ◌<◌, ◌⊎◌, [], Some, true, false, Contains, MatchBool, MatchOption, IfSome, IfOk};
-ghost use Rattle.inst_table.specs.Bucket.{key_words, bucket_of};
-ghost use Rattle.inst_table.specs.Find.{IfHit, IfMiss};
+ghost use Rattle.std.specs.Prelude.{◌≡◌, ◌≢◌, ℕ, ◌+◌, ◌-◌, ◌≤◌, ◌<◌, [], IfSome, IfOk};
 ghost use Rattle.inst_table.specs.Views.{split_view};
-ghost use Rattle.inst_table.specs.Passes.{KnowsRow, KnowsNoRow, KnowsAddress, KnowsRecord, KnowsAtLeast, IsKnownUnit, FitsKnown, LooksOnce, LearnsAlongChain};
-ghost use Rattle.inst_table.specs.Units.{IsRecord};
+ghost use Rattle.inst_table.specs.Passes.{KnowsAtLeast, IsKnownUnit, LooksOnce, LearnsAlongChain};
 
 use crate::KEY_WORDS;
 use crate::rule::{JoinsPass, Seat, SplitsPass};
@@ -30,8 +27,10 @@ pub enum Find {
 }
 
 impl Pass {
-    ghost use Rattle.inst_table.specs.Names.{home_of, view_of, id_of, fit_of, numbers_of};
-    ghost use Rattle.inst_table.specs.AddressLoads.{word_of, LoadsAddress};
+    ghost use Rattle.inst_table.specs.Names.{home_of, view_of, id_of, numbers_of};
+    ghost use Rattle.inst_table.specs.Find.{IfHit, IfMiss, IsHit, IsMiss};
+    ghost use Rattle.inst_table.specs.AddressLoads.{word_of, IsKnownAddress, IsAddressOf, LoadsAddress, LoadsNoAddress};
+    ghost use Rattle.inst_table.specs.Tables.{IsRecordAt, FitsAt};
 
     pub(crate) fn new(seat: Seat) -> Pass
         requires { seat.me.1 ≡ [] }
@@ -45,14 +44,11 @@ impl Pass {
         requires { home_of self.old ≡ id_of table.now }
         ensures table { home_of self.new ≡ home_of self.old }
         ensures looks { LooksOnce (view_of self.old) (view_of self.new) }
-        ensures hit { IfHit result (λ row. KnowsRow (view_of self.new) row key.now) }
-        ensures row { IfHit result (λ row. row < (numbers_of table.now).rows) }
-        ensures miss { IfMiss result (λ n. ((view_of self.new).seen ≡ n) × ((view_of self.old).seen ≤ n) × Contains (view_of self.new).absent (key.now, n)) }
-        ensures room { IfMiss result (λ n. n ≤ (numbers_of table.now).rows) }
-        ensures never_missed { IfMiss result (λ _. KnowsNoRow (view_of self.old) key.now) }
+        ensures hit { IfHit result (IsHit table.now key.now self.new) }
+        ensures miss { IfMiss result (IsMiss table.now key.now self.old self.new) }
         ensures chain { LearnsAlongChain (view_of self.old) (view_of self.new) key.now }
         ensures knows { KnowsAtLeast (view_of self.old) (view_of self.new) }
-        ensures address_loads { (view_of self.new).address_loads ≡ (view_of self.old).address_loads }
+        ensures loads { LoadsNoAddress (view_of self.old) (view_of self.new) }
     {
         let count = table.count::<Brand>(&mut self.seat);
         match table.follow::<Brand>(&mut self.seat, key, count) {
@@ -64,11 +60,12 @@ impl Pass {
     /// A new pass that knows what this one knows. It has loaded no address.
     pub fn split<F: Fit>(&mut self, table: &Table<F>) -> Pass
         requires { home_of self.old ≡ id_of table.now }
-        ensures table { (home_of self.new ≡ home_of self.old) × (home_of result ≡ home_of self.old) }
+        ensures table { home_of self.new ≡ home_of self.old }
+        ensures home { home_of result ≡ home_of self.old }
         ensures same { view_of self.new ≡ view_of self.old }
         ensures pass { view_of result ≡ split_view (view_of self.old) }
         ensures knows { KnowsAtLeast (view_of self.old) (view_of result) }
-        ensures address_loads { (view_of result).address_loads ≡ [] }
+        ensures loads { (view_of result).address_loads ≡ [] }
     {
         Pass {
             seat: table.words.shared.split_seat::<SplitsPass>(&mut self.seat),
@@ -81,7 +78,7 @@ impl Pass {
         ensures table { home_of self.new ≡ home_of self.old }
         ensures knows { KnowsAtLeast (view_of self.old) (view_of self.new) }
         ensures others { KnowsAtLeast (view_of other) (view_of self.new) }
-        ensures address_loads { (view_of self.new).address_loads ≡ (view_of self.old).address_loads }
+        ensures loads { LoadsNoAddress (view_of self.old) (view_of self.new) }
     {
         let Pass { seat } = other;
         table
@@ -96,7 +93,7 @@ impl Pass {
         requires known { IsKnownUnit (numbers_of table.now) (view_of self.old) unit }
         ensures table { home_of self.new ≡ home_of self.old }
         ensures loads { LoadsAddress (view_of self.old) (view_of self.new) unit (word_of result) }
-        ensures address { IfSome result (λ a. (a.unit ≡ unit) × (a.word ≢ 0) × KnowsAddress (view_of self.new) unit a.word) }
+        ensures address { IfSome result (IsAddressOf unit (view_of self.new)) }
         ensures knows { KnowsAtLeast (view_of self.old) (view_of self.new) }
     {
         let word = table.read_address::<Brand>(&mut self.seat, unit);
@@ -114,12 +111,12 @@ impl Pass {
         address: Address,
     ) -> Result<Vec<u32>, AllocError>
         requires table { home_of self.old ≡ id_of table.now }
-        requires known { KnowsAddress (view_of self.old) address.unit address.word }
+        requires known { IsKnownAddress (view_of self.old) address }
         ensures table { home_of self.new ≡ home_of self.old }
-        ensures record { IfOk result (λ words. IsRecord words.items × KnowsRecord (view_of self.new) address.word words.items) }
-        ensures fits { IfOk result (λ words. FitsKnown (F.fits (fit_of table.now)) (numbers_of table.now) (view_of self.new) address.unit words.items) }
+        ensures record { IfOk result (IsRecordAt (view_of self.new) address) }
+        ensures fits { IfOk result (FitsAt table.now (view_of self.new) address) }
         ensures knows { KnowsAtLeast (view_of self.old) (view_of self.new) }
-        ensures address_loads { (view_of self.new).address_loads ≡ (view_of self.old).address_loads }
+        ensures loads { LoadsNoAddress (view_of self.old) (view_of self.new) }
     {
         table.read_whole(alloc, &mut self.seat, address)
     }

@@ -1,15 +1,11 @@
 //! What adds code.
-ghost use Rattle.std.specs.Prelude.{◌≡◌, ◌≢◌, ℕ, ◌+◌, ◌≤◌, ◌<◌, [], ◌∷◌, ◌++◌, Some, true, false, length};
-ghost use Rattle.inst_table.specs.Subject.{all_subjects};
-ghost use Rattle.inst_table.specs.Units.{IsRecord, heap_of, address_of, total};
-ghost use Rattle.inst_table.specs.Passes.{KnowsAddress, KnowsAtLeast, MayPublish};
-ghost use Rattle.inst_table.specs.Publications.{IfAccepted, IfAlready, IfHeapFull, IfAddress};
+ghost use Rattle.std.specs.Prelude.{◌≡◌, ◌≢◌, ℕ, ◌+◌, ◌≤◌, ◌<◌, [], ◌∷◌, ◌++◌, true, false, length};
+ghost use Rattle.inst_table.specs.Units.{heap_of};
 
 use crate::pass::{Address, Pass};
-use crate::rule::{Seat, UnitOperands};
+use crate::rule::Seat;
 use crate::setup::Fit;
 use crate::table::Table;
-use std::marker::Brand;
 
 /// The one seat that may publish the records of units.
 #[derive(Drop)]
@@ -33,7 +29,8 @@ pub enum Published {
 }
 
 impl Publisher {
-    ghost use Rattle.inst_table.specs.Names.{publisher_home_of, units_of, id_of, fit_of, numbers_of, home_of, view_of};
+    ghost use Rattle.inst_table.specs.Names.{publisher_home_of, id_of, home_of};
+    ghost use Rattle.inst_table.specs.Publications.{IfAccepted, IfAlready, IfHeapFull, IfAddress, Accepts, IsAlready, IsHeapFull, NotesAddress, HasHeapForAll, MayBePublished};
 
     /// Publishes the record of a unit, if the unit has none. `by` knows the unit's row, if it is no library's.
     pub fn publish<F: Fit>(
@@ -43,51 +40,18 @@ impl Publisher {
         by: Pass,
         words: &[u32],
     ) -> Published
-        requires table { (publisher_home_of self.old ≡ id_of table.now) × (home_of by ≡ id_of table.now) }
-        requires record { IsRecord words.now × MayPublish (F.fits (fit_of table.now)) (numbers_of table.now) (view_of by) unit words.now }
+        requires table { publisher_home_of self.old ≡ id_of table.now }
+        requires by { home_of by ≡ id_of table.now }
+        requires record { MayBePublished table.now by unit words.now }
         ensures table { publisher_home_of self.new ≡ publisher_home_of self.old }
-        ensures accepted { IfAccepted result (λ a. (address_of (units_of self.old) unit ≡ 0)
-            × (length (heap_of (units_of self.old)) + length words.now ≤ (numbers_of table.now).heap)
-            × (a.unit ≡ unit) × (a.word ≡ 1 + length (heap_of (units_of self.old)))
-            × (units_of self.new ≡ units_of self.old ++ (record { number = unit; words = words.now }) ∷ [])) }
-        ensures already { IfAlready result (λ a. (a.unit ≡ unit) × (a.word ≢ 0) × (a.word ≡ address_of (units_of self.old) unit)
-            × (units_of self.new ≡ units_of self.old)) }
-        ensures heap_full { IfHeapFull result (λ end. (address_of (units_of self.old) unit ≡ 0) × (end ≡ length (heap_of (units_of self.old)))
-            × ((numbers_of table.now).heap < end + length words.now) × (units_of self.new ≡ units_of self.old)) }
-        ensures never_full { total (F.longest (fit_of table.now)) (all_subjects (numbers_of table.now).libraries (F.asked (fit_of table.now))) ≤ (numbers_of table.now).heap
-            → IfHeapFull result (λ _. ⊥) }
-        ensures note { IfAddress result (λ a note. (home_of note ≡ id_of table.now) × KnowsAtLeast (view_of by) (view_of note)
-            × KnowsAddress (view_of note) unit a.word × (a.word ≢ 0)) }
-    {
-        self.publish_in::<Brand, F>(table, unit, by, words)
-    }
-
-    fn publish_in<K: UnitOperands<F>, F: Fit>(
-        &mut self,
-        table: &Table<F>,
-        unit: u32,
-        by: Pass,
-        words: &[u32],
-    ) -> Published
-        requires table { (publisher_home_of self.old ≡ id_of table.now) × (home_of by ≡ id_of table.now) }
-        requires operands { (K.fit ≡ Some (fit_of table.now)) × (K.numbers ≡ numbers_of table.now) × (K.unit ≡ unit) }
-        requires record { IsRecord words.now × MayPublish (F.fits (fit_of table.now)) (numbers_of table.now) (view_of by) unit words.now }
-        ensures table { publisher_home_of self.new ≡ publisher_home_of self.old }
-        ensures accepted { IfAccepted result (λ a. (address_of (units_of self.old) unit ≡ 0)
-            × (length (heap_of (units_of self.old)) + length words.now ≤ (numbers_of table.now).heap)
-            × (a.unit ≡ unit) × (a.word ≡ 1 + length (heap_of (units_of self.old)))
-            × (units_of self.new ≡ units_of self.old ++ (record { number = unit; words = words.now }) ∷ [])) }
-        ensures already { IfAlready result (λ a. (a.unit ≡ unit) × (a.word ≢ 0) × (a.word ≡ address_of (units_of self.old) unit)
-            × (units_of self.new ≡ units_of self.old)) }
-        ensures heap_full { IfHeapFull result (λ end. (address_of (units_of self.old) unit ≡ 0) × (end ≡ length (heap_of (units_of self.old)))
-            × ((numbers_of table.now).heap < end + length words.now) × (units_of self.new ≡ units_of self.old)) }
-        ensures never_full { total (F.longest (fit_of table.now)) (all_subjects (numbers_of table.now).libraries (F.asked (fit_of table.now))) ≤ (numbers_of table.now).heap
-            → IfHeapFull result (λ _. ⊥) }
-        ensures note { IfAddress result (λ a note. (home_of note ≡ id_of table.now) × KnowsAtLeast (view_of by) (view_of note)
-            × KnowsAddress (view_of note) unit a.word × (a.word ≢ 0)) }
+        ensures accepted { IfAccepted result (Accepts table.now unit words.now self.old self.new) }
+        ensures already { IfAlready result (IsAlready unit self.old self.new) }
+        ensures full { IfHeapFull result (IsHeapFull table.now unit words.now self.old self.new) }
+        ensures never_full { HasHeapForAll table.now → IfHeapFull result (λ _. ⊥) }
+        ensures note { IfAddress result (NotesAddress table.now unit by) }
     {
         table.take_in(&mut self.seat, by);
-        let word = table.own_address::<K>(&mut self.seat, unit);
+        let word = table.own_address(&mut self.seat, unit);
         if word != 0 {
             let note = table.note_of_units(&mut self.seat);
             return Published::Already {
@@ -100,7 +64,7 @@ impl Publisher {
         if after > table.numbers.heap {
             return Published::HeapFull(end);
         }
-        table.accept::<K>(&mut self.seat, unit, end, words);
+        table.accept(&mut self.seat, unit, end, words);
         self.end = after;
         let note = table.note_of_units(&mut self.seat);
         Published::Accepted {

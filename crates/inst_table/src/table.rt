@@ -1,6 +1,6 @@
 //! The table.
-ghost use Rattle.std.specs.Prelude.{◌≡◌, ◌+◌, ◌^◌, ◌<◌, [], IfOk};
-ghost use Rattle.inst_table.specs.Layout.{width};
+ghost use Rattle.std.specs.Prelude.{◌≡◌, [], IfOk};
+ghost use Rattle.inst_table.specs.Layout.{width, AreSmall};
 ghost use Rattle.inst_table.specs.Views.{blank};
 
 use crate::creator::Creator;
@@ -21,11 +21,12 @@ pub struct Table<F: Fit> {
     ghost fit_kept: { words.shared.key.fit ≡ fit },
     ghost numbers_kept: { words.shared.key.numbers ≡ numbers },
     ghost sized: { words.shared.table_id.words ≡ width numbers },
-    ghost small: { (numbers.libraries + numbers.rows < 2 ^ 32) × (numbers.heap < 2 ^ 62) },
+    ghost small: { AreSmall numbers },
 }
 
 impl<F: Fit> Table<F> {
-    ghost use Rattle.inst_table.specs.Names.{id_of, fit_of, numbers_of, home_of, view_of, creator_home_of, rows_of, publisher_home_of, units_of};
+    ghost use Rattle.inst_table.specs.Names.{fit_of, view_of, rows_of, units_of, ArePartsOf};
+    ghost use Rattle.inst_table.specs.Tables.{IsMadeWith};
 
     /// A table with no row and no code, with room for so many rows and heap words, and its seats.
     pub fn make(
@@ -34,11 +35,12 @@ impl<F: Fit> Table<F> {
         rows: u32,
         heap: u64,
     ) -> Result<(Table<F>, Pass, Creator, Publisher), AllocError>
-        requires { (F.library_count fit + rows < 2 ^ 32) × (heap < 2 ^ 62) }
-        ensures table { IfOk result (λ made. (fit_of made.0 ≡ fit) × (numbers_of made.0 ≡ record { libraries = F.library_count fit; rows = rows; heap = heap })) }
-        ensures pass { IfOk result (λ made. (home_of made.1 ≡ id_of made.0) × (view_of made.1 ≡ blank)) }
-        ensures creator { IfOk result (λ made. (creator_home_of made.2 ≡ id_of made.0) × (rows_of made.2 ≡ [])) }
-        ensures publisher { IfOk result (λ made. (publisher_home_of made.3 ≡ id_of made.0) × (units_of made.3 ≡ [])) }
+        requires { AreSmall (record { libraries = F.library_count fit; rows = rows; heap = heap }) }
+        ensures table { IfOk result (λ made. IsMadeWith fit rows heap made.0) }
+        ensures parts { IfOk result (λ made. ArePartsOf made.0 made.2 made.3 made.1) }
+        ensures pass { IfOk result (λ made. view_of made.1 ≡ blank) }
+        ensures creator { IfOk result (λ made. rows_of made.2 ≡ []) }
+        ensures publisher { IfOk result (λ made. units_of made.3 ≡ []) }
     {
         let libraries = fit.libraries();
         let numbers = Numbers {

@@ -1,11 +1,9 @@
 ghost use Rattle.std.specs.Prelude.{◌≡◌, ℕ, ◌+◌, ◌^◌, ◌<◌, ◌≤◌, ◌⊎◌, List, [], ◌∷◌, true, length, vec_len, Contains, IsTrue, IfOk, IfSome};
 ghost use Rattle.inst_table.specs.Bucket.{key_words};
-ghost use Rattle.inst_table.specs.Subject.{Subject};
-ghost use Rattle.inst_table.specs.Units.{IsRecord};
-ghost use Rattle.inst_table.specs.Passes.{KnowsRow, KnowsAddress};
 ghost use Rattle.inst_table.specs.Publications.{IfAddress};
-ghost use Rattle.inst_table.specs.Sample.{HasKey};
-ghost use Rattle.inst_table.specs.Names.{id_of, fit_of, numbers_of, home_of, view_of, creator_home_of, publisher_home_of};
+ghost use Rattle.inst_table.specs.AddressLoads.{IsKnownAddress};
+ghost use Rattle.inst_table.specs.Sample.{HasKey, IsShortRecord, NotesSomeRow, AreReadersOf, AreWritersOf};
+ghost use Rattle.inst_table.specs.Names.{id_of, fit_of, numbers_of, home_of, view_of, creator_home_of, publisher_home_of, ArePartsOf};
 
 use crate::creator::{Created, Creator};
 use crate::pass::{Address, Find, Pass};
@@ -17,7 +15,7 @@ use std::alloc::{AllocError, Global};
 use std::test::Fail;
 use std::thread::{Threads, join};
 
-const LONGEST: usize = 70;
+const LONGEST: usize = 2_000;
 
 // Some keys, no library, and any record up to a length.
 #[derive(Drop)]
@@ -28,9 +26,9 @@ struct Keys {
 impl Fit for Keys {
     ghost asked = { λ fit. fit.keys.items };
 
-    ghost fits = { λ fit unit words. length words ≤ 70 };
+    ghost fits = { λ fit unit words. length words ≤ 2000 };
 
-    ghost longest = { λ fit unit. 70 };
+    ghost longest = { λ fit unit. 2000 };
 
     ghost library_count = { λ fit. 0 };
 
@@ -61,6 +59,17 @@ fn three_keys(alloc: Global) -> Result<Keys, AllocError>
     Ok(Keys { keys })
 }
 
+// So many keys, whose first words differ.
+fn many_keys(alloc: Global, count: u32) -> Result<Keys, AllocError>
+    ensures { IfOk result (λ made. vec_len made.keys ≡ count) }
+{
+    let mut keys = Vec::new(alloc);
+    for word in 0..count {
+        keys.push(key(0, word as u64))?;
+    }
+    Ok(Keys { keys })
+}
+
 // A record of one module with so many words.
 fn record(alloc: Global, len: u32) -> Result<Vec<u32>, AllocError> {
     let mut words = Vec::new(alloc);
@@ -73,7 +82,7 @@ fn record(alloc: Global, len: u32) -> Result<Vec<u32>, AllocError> {
 }
 
 fn is_record(words: &[u32]) -> bool
-    ensures { result ≡ true → IsRecord words.now × (length words.now ≤ 70) }
+    ensures { result ≡ true → IsShortRecord words.now }
 {
     words.len() >= 2
         && words.len() <= LONGEST
@@ -94,7 +103,7 @@ impl Table<Keys> {
         requires table { creator_home_of creator.old ≡ id_of self.now }
         requires asked { Contains (fit_of self.now).keys.items key.now }
         ensures table { creator_home_of creator.new ≡ creator_home_of creator.old }
-        ensures note { IfOk result (λ r. (home_of r.1 ≡ id_of self.now) × HasKey (view_of r.1) r.0) }
+        ensures note { IfOk result (NotesSomeRow self.now) }
     {
         match creator.create(self, key) {
             Created::New { row, note } => Ok((row, note)),
@@ -104,9 +113,10 @@ impl Table<Keys> {
     }
 
     fn put(&self, publisher: &mut Publisher, row: u32, note: Pass, words: &[u32]) -> Published
-        requires table { (publisher_home_of publisher.old ≡ id_of self.now) × (home_of note ≡ id_of self.now) }
+        requires table { publisher_home_of publisher.old ≡ id_of self.now }
+        requires by { home_of note ≡ id_of self.now }
         requires row { HasKey (view_of note) row }
-        requires words { IsRecord words.now × (length words.now ≤ 70) }
+        requires words { IsShortRecord words.now }
         ensures table { publisher_home_of publisher.new ≡ publisher_home_of publisher.old }
         ensures note { IfAddress result (λ a note. home_of note ≡ id_of self.now) }
     {
@@ -122,7 +132,7 @@ impl Table<Keys> {
         requires table { home_of pass.old ≡ id_of self.now }
         ensures table { home_of pass.new ≡ home_of pass.old }
         ensures row { IfOk result (λ r. HasKey (view_of pass.new) r.0) }
-        ensures address { IfOk result (λ r. IfSome r.1 (λ a. KnowsAddress (view_of pass.new) a.unit a.word)) }
+        ensures address { IfOk result (λ r. IfSome r.1 (IsKnownAddress (view_of pass.new))) }
     {
         match pass.find(self, key) {
             Find::Hit(row) => Ok((row, pass.address(self, row))),
@@ -158,12 +168,12 @@ impl Table<Keys> {
         true
     }
 
+    // A row for each key.
     fn add_all(&self, mut creator: Creator) -> Creator
-        requires table { creator_home_of creator ≡ id_of self.now }
-        requires keys { vec_len (fit_of self.now).keys ≡ 3 }
+        requires { creator_home_of creator ≡ id_of self.now }
         ensures { creator_home_of result ≡ id_of self.now }
     {
-        for at in 0..3 {
+        for at in 0..self.fit().keys.len() {
             let _ = self.add_row(&mut creator, &self.key_of(at));
         }
         creator
@@ -177,9 +187,10 @@ impl Table<Keys> {
         words: &[u32],
         tries: u32,
     ) -> Publisher
-        requires table { (publisher_home_of publisher ≡ id_of self.now) × (home_of pass ≡ id_of self.now) }
+        requires table { publisher_home_of publisher ≡ id_of self.now }
+        requires pass { home_of pass ≡ id_of self.now }
         requires keys { vec_len (fit_of self.now).keys ≡ 3 }
-        requires words { IsRecord words.now × (length words.now ≤ 70) }
+        requires words { IsShortRecord words.now }
         ensures { publisher_home_of result ≡ id_of self.now }
     {
         for at in 0..3 {
@@ -197,12 +208,12 @@ impl Table<Keys> {
 
 type Parts = (Table<Keys>, Pass, Creator, Publisher);
 
-fn make_parts(alloc: Global, rows: u32, heap: u64) -> Result<Parts, AllocError>
+fn make_parts(alloc: Global, keys: Keys, rows: u32, heap: u64) -> Result<Parts, AllocError>
     requires { heap < 2 ^ 30 }
-    ensures table { IfOk result (λ p. vec_len (fit_of p.0).keys ≡ 3) }
-    ensures seats { IfOk result (λ p. (home_of p.1 ≡ id_of p.0) × (creator_home_of p.2 ≡ id_of p.0) × (publisher_home_of p.3 ≡ id_of p.0)) }
+    ensures fit { IfOk result (λ p. fit_of p.0 ≡ keys) }
+    ensures parts { IfOk result (λ p. ArePartsOf p.0 p.2 p.3 p.1) }
 {
-    Table::make(alloc, three_keys(alloc)?, rows, heap)
+    Table::make(alloc, keys, rows, heap)
 }
 
 #[test]
@@ -210,7 +221,12 @@ fn rows_and_heap_are_full_exactly_at_their_ends(rt: HostRuntime) -> Result<(), F
     let words = record(rt.alloc(), 68)?;
     let fits = is_record(&words);
     assert!(rt; fits);
-    let (table, _pass, mut creator, mut publisher) = make_parts(rt.alloc(), 1, 69)?;
+    let (table, _pass, mut creator, mut publisher) = make_parts(
+        rt.alloc(),
+        three_keys(rt.alloc())?,
+        1,
+        69,
+    )?;
     let (first, second) = (table.key_of(0), table.key_of(1));
     let Ok((row, note)) = table.add_row(&mut creator, &first) else {
         panic!(rt; "no room")
@@ -227,7 +243,12 @@ fn one_record_is_accepted(rt: HostRuntime) -> Result<(), Fail> {
     let words = record(rt.alloc(), 68)?;
     let fits = is_record(&words);
     assert!(rt; fits);
-    let (table, mut pass, mut creator, mut publisher) = make_parts(rt.alloc(), 1, 70)?;
+    let (table, mut pass, mut creator, mut publisher) = make_parts(
+        rt.alloc(),
+        three_keys(rt.alloc())?,
+        1,
+        70,
+    )?;
     let key = table.key_of(0);
     let Ok((row, note)) = table.add_row(&mut creator, &key) else {
         panic!(rt; "no room")
@@ -266,7 +287,12 @@ fn one_record_is_accepted(rt: HostRuntime) -> Result<(), Fail> {
 
 #[test]
 fn a_key_is_found_along_the_chain_of_its_bucket(rt: HostRuntime) -> Result<(), Fail> {
-    let (table, mut pass, mut creator, _publisher) = make_parts(rt.alloc(), 3, 0)?;
+    let (table, mut pass, mut creator, _publisher) = make_parts(
+        rt.alloc(),
+        three_keys(rt.alloc())?,
+        3,
+        0,
+    )?;
     let (first, second, third) = (table.key_of(0), table.key_of(1), table.key_of(2));
     let (one, two) = (
         table.add_row(&mut creator, &first).is_ok(),
@@ -285,7 +311,7 @@ fn a_key_is_found_along_the_chain_of_its_bucket(rt: HostRuntime) -> Result<(), F
 // Two readers, in two threads.
 fn two_watch<R: Threads>(rt: &R, table: &Table<Keys>, one: Pass, other: Pass, rounds: u32) -> bool
     requires table { vec_len (fit_of table.now).keys ≡ 3 }
-    requires passes { (home_of one ≡ id_of table.now) × (home_of other ≡ id_of table.now) }
+    requires passes { AreReadersOf table.now (one, other) }
 {
     let (a, b) = join(
         rt,
@@ -305,9 +331,9 @@ fn two_write<R: Threads>(
     words: &[u32],
 ) -> (Creator, Publisher)
     requires table { vec_len (fit_of table.now).keys ≡ 3 }
-    requires seats { (creator_home_of creator ≡ id_of table.now) × (publisher_home_of publisher ≡ id_of table.now) × (home_of pass ≡ id_of table.now) }
-    requires words { IsRecord words.now × (length words.now ≤ 70) }
-    ensures { (creator_home_of result.0 ≡ id_of table.now) × (publisher_home_of result.1 ≡ id_of table.now) }
+    requires seats { ArePartsOf table.now creator publisher pass }
+    requires words { IsShortRecord words.now }
+    ensures { AreWritersOf table.now result }
 {
     join(
         rt,
@@ -328,10 +354,10 @@ fn four_work<R: Threads + Sync>(
     words: &[u32],
 ) -> (bool, (Creator, Publisher))
     requires table { vec_len (fit_of table.now).keys ≡ 3 }
-    requires readers { (home_of one ≡ id_of table.now) × (home_of other ≡ id_of table.now) }
-    requires seats { (creator_home_of creator ≡ id_of table.now) × (publisher_home_of publisher ≡ id_of table.now) × (home_of pass ≡ id_of table.now) }
-    requires words { IsRecord words.now × (length words.now ≤ 70) }
-    ensures { (creator_home_of result.1.0 ≡ id_of table.now) × (publisher_home_of result.1.1 ≡ id_of table.now) }
+    requires readers { AreReadersOf table.now (one, other) }
+    requires seats { ArePartsOf table.now creator publisher pass }
+    requires words { IsShortRecord words.now }
+    ensures { AreWritersOf table.now result.1 }
 {
     join(
         rt,
@@ -353,11 +379,11 @@ fn six_work<R: Threads + Sync>(
     words: &[u32],
 ) -> (bool, (bool, (Creator, Publisher)))
     requires table { vec_len (fit_of table.now).keys ≡ 3 }
-    requires first { (home_of first.0 ≡ id_of table.now) × (home_of first.1 ≡ id_of table.now) }
-    requires second { (home_of three ≡ id_of table.now) × (home_of four ≡ id_of table.now) }
-    requires seats { (creator_home_of creator ≡ id_of table.now) × (publisher_home_of publisher ≡ id_of table.now) × (home_of pass ≡ id_of table.now) }
-    requires words { IsRecord words.now × (length words.now ≤ 70) }
-    ensures { (creator_home_of result.1.1.0 ≡ id_of table.now) × (publisher_home_of result.1.1.1 ≡ id_of table.now) }
+    requires first { AreReadersOf table.now first }
+    requires second { AreReadersOf table.now (three, four) }
+    requires seats { ArePartsOf table.now creator publisher pass }
+    requires words { IsShortRecord words.now }
+    ensures { AreWritersOf table.now result.1.1 }
 {
     let (one, other) = first;
     join(
@@ -365,10 +391,10 @@ fn six_work<R: Threads + Sync>(
         move || two_watch(rt, table, one, other, ROUNDS),
         move || -> (bool, (Creator, Publisher))
             requires table { vec_len (fit_of table.now).keys ≡ 3 }
-            requires readers { (home_of three ≡ id_of table.now) × (home_of four ≡ id_of table.now) }
-            requires seats { (creator_home_of creator ≡ id_of table.now) × (publisher_home_of publisher ≡ id_of table.now) × (home_of pass ≡ id_of table.now) }
-            requires words { IsRecord words.now × (length words.now ≤ 70) }
-            ensures { (creator_home_of result.1.0 ≡ id_of table.entry.now) × (publisher_home_of result.1.1 ≡ id_of table.entry.now) }
+            requires readers { AreReadersOf table.now (three, four) }
+            requires seats { ArePartsOf table.now creator publisher pass }
+            requires words { IsShortRecord words.now }
+            ensures { AreWritersOf table.entry.now result.1 }
         { four_work(rt, table, three, four, creator, publisher, pass, words) },
     )
 }
@@ -382,7 +408,12 @@ fn nothing_that_is_read_goes_back(rt: HostRuntime) -> Result<(), Fail> {
     let words = record(rt.alloc(), 68)?;
     let fits = is_record(&words);
     assert!(rt; fits);
-    let (table, mut pass, creator, publisher) = make_parts(rt.alloc(), 3, 210)?;
+    let (table, mut pass, creator, publisher) = make_parts(
+        rt.alloc(),
+        three_keys(rt.alloc())?,
+        3,
+        210,
+    )?;
     let first = (pass.split(&table), pass.split(&table));
     let three = pass.split(&table);
     let four = pass.split(&table);
@@ -407,9 +438,9 @@ struct OneLibrary {
 impl Fit for OneLibrary {
     ghost asked = { λ fit. fit.key ∷ [] };
 
-    ghost fits = { λ fit unit words. length words ≤ 70 };
+    ghost fits = { λ fit unit words. length words ≤ 2000 };
 
-    ghost longest = { λ fit unit. 70 };
+    ghost longest = { λ fit unit. 2000 };
 
     ghost library_count = { λ fit. 1 };
 
@@ -430,8 +461,9 @@ impl Table<OneLibrary> {
     }
 
     fn build_library(&self, publisher: &mut Publisher, by: Pass, words: &[u32]) -> Published
-        requires table { (publisher_home_of publisher.old ≡ id_of self.now) × (home_of by ≡ id_of self.now) }
-        requires words { IsRecord words.now × (length words.now ≤ 70) }
+        requires table { publisher_home_of publisher.old ≡ id_of self.now }
+        requires by { home_of by ≡ id_of self.now }
+        requires words { IsShortRecord words.now }
         ensures { publisher_home_of publisher.new ≡ publisher_home_of publisher.old }
     {
         publisher.publish(self, 0, by, words)
@@ -464,5 +496,47 @@ fn a_row_that_was_never_built_has_an_empty_unit(rt: HostRuntime) -> Result<(), F
     assert!(rt; closed.rows.len() == 1 && closed.units.len() == 1);
     assert!(rt; closed.rows.get(0).is_some_and(|row| row[0] == 7));
     assert!(rt; closed.units.get(0).is_some_and(|unit| unit.is_none()));
+    Ok(())
+}
+
+#[test]
+fn a_thousand_rows_and_a_long_record_are_given(rt: HostRuntime) -> Result<(), Fail> {
+    let words = record(rt.alloc(), 1_500)?;
+    let fits = is_record(&words);
+    assert!(rt; fits);
+    let keys = many_keys(rt.alloc(), 1_000)?;
+    let (table, mut pass, creator, mut publisher) = make_parts(rt.alloc(), keys, 1_000, 1_502)?;
+    let mut creator = table.add_all(creator);
+    let key = table.key_of(999);
+    let Ok((row, note)) = table.add_row(&mut creator, &key) else {
+        panic!(rt; "no room")
+    };
+    assert_eq!(rt; row, 999);
+    let answer = table.put(&mut publisher, row, note, &words);
+    assert!(rt;
+        matches!(
+            answer,
+            Published::Accepted {
+                address: _,
+                note: _
+            }
+        )
+    );
+    let Ok((_, Some(address))) = table.look_up(&mut pass, &key) else {
+        panic!(rt; "not seen")
+    };
+    let fetched = pass.fetch(rt.alloc(), &table, address)?;
+    assert!(rt; fetched.len() == 1_502 && fetched.get(1_501) == Some(&1_499));
+    let Ok(closed) = close(rt.alloc(), table, creator, publisher, pass) else {
+        panic!(rt; "no memory")
+    };
+    assert!(rt; closed.rows.len() == 1_000 && closed.units.len() == 1_000);
+    assert!(rt; closed.rows.get(999).is_some_and(|row| row[0] == 999));
+    assert!(rt; closed.units.get(998).is_some_and(|unit| unit.is_none()));
+    assert!(rt;
+        closed.units.get(999).is_some_and(|unit| unit
+            .as_ref()
+            .is_some_and(|words| words.len() == 1_502))
+    );
     Ok(())
 }

@@ -8,7 +8,8 @@ use state_model::Topology;
 
 /// Whether a primitive covers the pixel (`x`, `y`) (Vulkan, "Basic Point Rasterization", "Basic Polygon
 /// Rasterization"). The corners are words x, y, z, w with x and y signed, in 1/256 pixel. For points only corner 0
-/// counts. Where a corner that counts is outside the guard band, and for a triangle without area, nothing is covered.
+/// counts. A triangle covers the pixels whose centres it holds, and those on its edges by the top-left rule. Where a corner
+/// that counts is outside the guard band, and for a triangle without area, nothing is covered.
 #[tactic(auto, unfolding(draw_model::specs::Coverage::is_covered))]
 pub fn covers(topology: Topology, corners: &[[u32; COMPONENTS]; 3], x: u32, y: u32) -> bool
     requires x { x < MAX_SIDE }

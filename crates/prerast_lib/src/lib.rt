@@ -1,7 +1,7 @@
 //! The pre-rasterization library: primitives and the pixels that they cover.
 #![tactic(auto)]
 
-pub mod coverage;
+mod coverage;
 
 ghost use Rattle.std.specs.Prelude.{◌≡◌};
 ghost use Rattle.draw_model.specs.Assembly.{first_vertex};

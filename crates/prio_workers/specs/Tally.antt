@@ -69,6 +69,10 @@ pub record IsEmptyPop (which : Priority) (before now : Tally) : Type 0 where
       → count_of q now.empty_pops ≡ count_of q before.empty_pops
   pub only_counts : OnlyEmptyPops before now
 
+-- the tally once a job of this queue is noted as the last
+abbrev pub after_given : Priority → Tally → Tally
+after_given which before = record before { last = Some which; given = count_after before.given }
+
 -- how many jobs the High queue has given after a job of this queue
 abbrev pub high_after : Priority → ℕ → ℕ
 high_after High n = n + 1
@@ -89,12 +93,10 @@ low_number Low n = n ∷ []
 
 -- the tally after a pop that gives a job with this number
 abbrev pub after_job : Priority → ℕ → Tally → Tally
-after_job which n before = record before {
+after_job which n before = record (after_given which before) {
   high_taken = high_after which before.high_taken;
   normal_taken = normal_after which before.normal_taken;
   low_numbers = before.low_numbers ++ low_number which n;
-  last = Some which;
-  given = count_after before.given;
 }
 
 -- the tally after a load of the closed word that found this word

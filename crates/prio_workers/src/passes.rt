@@ -1,16 +1,14 @@
 //! The queues that threads share, and what each worker and the producer of Low jobs hold of them.
-ghost use Rattle.std.specs.Prelude.{◌≡◌, ◌==◌, ℕ, true, [], Some, IfSome, IfNone, IfErr, OnOk};
-ghost use Rattle.basics.specs.Count.{count_after};
+ghost use Rattle.std.specs.Prelude.{◌≡◌, ◌==◌, true, [], OnSome, IfNone, IfErr, OnOk};
 ghost use Rattle.crossbeam_queue.specs.SegTies.{IsSegPassOf};
 ghost use Rattle.prio_workers.specs.LowRule.{taker_view};
 ghost use Rattle.prio_workers.specs.Passes.{IsPassKnowing, HandsBack, pass_view, after_low_push};
-ghost use Rattle.prio_workers.specs.Tally.{IsEmptyPop, after_load};
-ghost use Rattle.prio_workers.specs.Takes.{PopsJob};
-ghost use Rattle.prio_workers.specs.declared.taking.Priority.TheVariants.{High, Normal, Low};
+ghost use Rattle.prio_workers.specs.Tally.{IsEmptyPop, after_given, after_load};
+ghost use Rattle.prio_workers.specs.declared.taking.Priority.TheVariants.{Low};
 
 use crate::closed_word::{ClosedSeat, ClosedWord, read_word};
-use crate::low_queue::{LowPass, LowQueue, pop_next, push_next, taker_pass};
-use crate::plain_queue::{HighLevel, NormalLevel, PlainPass, PlainQueue, pop_plain};
+use crate::low_queue::{LowPass, LowQueue, push_next, taker_pass};
+use crate::plain_queue::{HighLevel, NormalLevel, PlainPass, PlainQueue};
 use crate::taking::{EmptyPops, Numbered, Priority};
 use std::marker::Model;
 use std::sync::Wait;
@@ -94,79 +92,29 @@ impl<J> Model for PassParts<J> {
 }
 
 impl<J> PassParts<J> {
-    fn count_empty_pop(&mut self, which: Priority)
+    /// Counts a pop of this queue, by what it gave.
+    pub(crate) fn count_pop(&mut self, which: Priority, popped: Option<J>) -> Option<J>
+        ensures same { result ≡ popped }
         ensures queues { self.new.queues ≡ self.old.queues }
-        ensures empty { IsEmptyPop which self.old.tally self.new.tally }
+        ensures empty { IfNone result (IsEmptyPop which self.old.tally self.new.tally) }
+        ensures job { OnSome result (self.new.tally ≡ after_given which self.old.tally) }
     {
+        if popped.is_some() {
+            self.last = Some(which);
+            self.given = self.given.saturating_add(1);
+            return popped;
+        }
         let counts = &mut self.empty_pops;
         match which {
             Priority::High => counts.high = counts.high.saturating_add(1),
             Priority::Normal => counts.normal = counts.normal.saturating_add(1),
             Priority::Low => counts.low = counts.low.saturating_add(1),
         }
-    }
-
-    fn count_job(&mut self, which: Priority)
-        ensures queues { self.new.queues ≡ self.old.queues }
-        ensures given { self.new.tally ≡ record self.old.tally {
-          last = Some which;
-          given = count_after self.old.tally.given;
-        } }
-    {
-        self.last = Some(which);
-        self.given = self.given.saturating_add(1);
+        popped
     }
 }
 
 impl<J: Numbered + Drop> PassParts<J> {
-    /// Pops the High queue.
-    pub(crate) fn pop_high<R: Wait>(&mut self, rt: &R, set: &QueueSet<J>) -> Option<J>
-        requires { set.now ≡ self.old.queues }
-        ensures queues { self.new.queues ≡ self.old.queues }
-        ensures empty { IfNone result (IsEmptyPop High self.old.tally self.new.tally) }
-        ensures job { IfSome result (PopsJob J.number self.old.tally self.new.tally High) }
-        ensures due { IfSome result (J.IsFor High) }
-    {
-        let Some(job) = pop_plain(rt, &set.high, &mut self.high) else {
-            self.count_empty_pop(Priority::High);
-            return None;
-        };
-        self.count_job(Priority::High);
-        Some(job)
-    }
-
-    /// Pops the Normal queue.
-    pub(crate) fn pop_normal<R: Wait>(&mut self, rt: &R, set: &QueueSet<J>) -> Option<J>
-        requires { set.now ≡ self.old.queues }
-        ensures queues { self.new.queues ≡ self.old.queues }
-        ensures empty { IfNone result (IsEmptyPop Normal self.old.tally self.new.tally) }
-        ensures job { IfSome result (PopsJob J.number self.old.tally self.new.tally Normal) }
-        ensures due { IfSome result (J.IsFor Normal) }
-    {
-        let Some(job) = pop_plain(rt, &set.normal, &mut self.normal) else {
-            self.count_empty_pop(Priority::Normal);
-            return None;
-        };
-        self.count_job(Priority::Normal);
-        Some(job)
-    }
-
-    /// Pops the Low queue.
-    pub(crate) fn pop_low<R: Wait>(&mut self, rt: &R, set: &QueueSet<J>) -> Option<J>
-        requires { set.now ≡ self.old.queues }
-        ensures queues { self.new.queues ≡ self.old.queues }
-        ensures empty { IfNone result (IsEmptyPop Low self.old.tally self.new.tally) }
-        ensures job { IfSome result (PopsJob J.number self.old.tally self.new.tally Low) }
-        ensures due { IfSome result (J.IsFor Low) }
-    {
-        let Some(job) = pop_next(rt, &set.low, &mut self.low) else {
-            self.count_empty_pop(Priority::Low);
-            return None;
-        };
-        self.count_job(Priority::Low);
-        Some(job)
-    }
-
     /// Loads the closed word, and says whether it is 1.
     pub(crate) fn read_closed(&mut self, set: &QueueSet<J>) -> bool
         requires { set.now ≡ self.old.queues }

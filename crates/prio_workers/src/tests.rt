@@ -92,10 +92,11 @@ fn push_all<N: QueueName, R: Threads + Wait + Sync>(
     alloc: Global,
     workers: &Workers<u32, N>,
     low_push: &mut LowPush<u32>,
+    jobs: u32,
 ) -> Result<(), Memory>
     requires { (low_push.old.queue ≡ N.queues.low) × (low_push.old.pushed ≡ 0) }
 {
-    for n in 0..JOBS {
+    for n in 0..jobs {
         if let Err((job, _)) = workers.push_low(rt, alloc, low_push, n) {
             workers.push_low(rt, alloc, low_push, job).map_err(memory)?;
         }
@@ -110,10 +111,11 @@ fn push_and_close<N: QueueName, R: Threads + Wait + Sync>(
     alloc: Global,
     workers: &Workers<u32, N>,
     mut low_push: LowPush<u32>,
+    jobs: u32,
 ) -> Result<(), Memory>
     requires { (low_push.queue ≡ N.queues.low) × (low_push.pushed ≡ 0) }
 {
-    let pushed = push_all(rt, alloc, workers, &mut low_push);
+    let pushed = push_all(rt, alloc, workers, &mut low_push, jobs);
     workers.close(rt);
     pushed
 }
@@ -145,7 +147,7 @@ fn three_workers<N: QueueName + Send + Sync, R: Threads + Wait + Sync>(
         },
         move ||
             requires { (low_push.queue ≡ N.queues.low) × (low_push.pushed ≡ 0) }
-        { push_and_close(rt, alloc, workers, low_push) },
+        { push_and_close(rt, alloc, workers, low_push, JOBS) },
     );
     pushed?;
     came
@@ -171,6 +173,36 @@ fn three_workers_take_each_job_once(rt: HostRuntime) -> Result<(), Fail> {
         }
     }
     assert!(rt; times.iter().all(|times| *times == 1));
+    Ok(())
+}
+
+/// More jobs of each priority than wait at once in a run, and more workers than it has.
+const MANY: u32 = 50_000;
+
+const MANY_WORKERS: u32 = 64;
+
+/// How many answers a worker gets, where so many jobs of each priority wait.
+fn answers<N: QueueName, R: Threads + Wait + Sync>(
+    rt: &R,
+    alloc: Global,
+    queues: Queues<u32>,
+    jobs: u32,
+) -> Result<usize, Memory>
+    requires { queues.queues ≡ N.queues }
+{
+    let (workers, low_push, mut passes) = Workers::<u32, N>::new(queues);
+    push_and_close(rt, alloc, &workers, low_push, jobs)?;
+    let Some(mut pass) = passes.pop() else {
+        return Ok(0);
+    };
+    Ok(work(rt, alloc, &workers, &mut pass)?.len())
+}
+
+#[test]
+fn many_jobs_wait_at_once(rt: HostRuntime) -> Result<(), Fail> {
+    let queues = Queues::new(rt.alloc(), MANY_WORKERS)?;
+    let came = answers::<Brand, HostRuntime>(&rt, rt.alloc(), queues, MANY)?;
+    assert_eq!(rt; came, 3 * MANY as usize + 1);
     Ok(())
 }
 

@@ -9,7 +9,9 @@ ghost use Rattle.prio_workers.specs.Takes.{ListsLowNumber, ComesInTurn};
 ghost use Rattle.prio_workers.specs.declared.taking.Priority.TheVariants.{High, Normal, Low};
 
 use crate::creation::{Queues, SharedPasses};
+use crate::low_queue::pop_next;
 use crate::passes::{LowPush, PassParts, QueueSet, WorkerPass};
+use crate::plain_queue::pop_plain;
 use crate::taking::{Numbered, Pops, Priority, Taken, take_from};
 use std::alloc::{AllocError, Global};
 use std::marker::{Brand, PhantomData};
@@ -217,10 +219,20 @@ impl<J: Numbered + Drop, N: QueueName> Pops<J> for PassPops<'_, J, N> {
     ghost tally = { λ p. p.parts.tally };
 
     fn pop<R: Threads + Wait + Sync>(&mut self, rt: &R, which: Priority) -> Option<J> {
+        let set = &self.workers.set;
         match which {
-            Priority::High => self.parts.pop_high(rt, &self.workers.set),
-            Priority::Normal => self.parts.pop_normal(rt, &self.workers.set),
-            Priority::Low => self.parts.pop_low(rt, &self.workers.set),
+            Priority::High => {
+                let job = pop_plain(rt, &set.high, &mut self.parts.high);
+                self.parts.count_pop(which, job)
+            }
+            Priority::Normal => {
+                let job = pop_plain(rt, &set.normal, &mut self.parts.normal);
+                self.parts.count_pop(which, job)
+            }
+            Priority::Low => {
+                let job = pop_next(rt, &set.low, &mut self.parts.low);
+                self.parts.count_pop(which, job)
+            }
         }
     }
 

@@ -2,6 +2,9 @@ use Rattle.std.proofs.Common.{◌≡◌, ℕ, ◌<◌, get_or}
 use Rattle.inst_table.specs.Chain.{key_word}
 use Rattle.inst_table.proofs.table.Table.has_own_key.Given as goal
 
+abbrev pub ghosts-own_word : goal.ghosts-own_word
+ghosts-own_word g a = record { asked = g.F.Fit.asked a.self.now.words.shared.key.fit; room = a.self.now.words.shared.key.numbers.rows }
+
 abbrev pub invariant-loop-at : goal.invariant-loop-at
 invariant-loop-at g l = record {
   table : l.seat.table_id ≡ l.fn.seat.table_id;

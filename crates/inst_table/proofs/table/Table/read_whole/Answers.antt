@@ -5,10 +5,13 @@ use Rattle.inst_table.proofs.table.Table.read_whole.Goals as goal
 
 pub read_record-second-requires-clause-known : goal.read_record-second-requires-clause-known
 read_record-second-requires-clause-known g c κs within =
-    (still_known c.args.seat.now.me c.read_record-first.new.seat.me _ c.args.address.unit c.args.address.word c.read_record-first.ensures.view c.requires.known, inl (omega arith))
+    still_known c.args.seat.now.me c.read_record-first.new.seat.me _ c.args.address.unit c.args.address.word c.read_record-first.ensures.view c.requires.known
 
 pub returns-in_err-words-clause-learns : goal.returns-in_err-words-clause-learns
-returns-in_err-words-clause-learns g c = learns_two c.args.seat.now.me c.read_record-first.new.seat.me c.read_record-second.new.seat.me _ _ c.read_record-first.ensures.view c.read_record-second.ensures.view
+returns-in_err-words-clause-learns g c = (learns_two c.args.seat.now.me c.read_record-first.new.seat.me c.read_record-second.new.seat.me _ _ c.read_record-first.ensures.view c.read_record-second.ensures.view).0
+
+pub returns-in_err-words-clause-rights : goal.returns-in_err-words-clause-rights
+returns-in_err-words-clause-rights g c = (learns_two c.args.seat.now.me c.read_record-first.new.seat.me c.read_record-second.new.seat.me _ _ c.read_record-first.ensures.view c.read_record-second.ensures.view).1
 
 pub loop-at-init : goal.loop-at-init
 loop-at-init g c = let one = c.read_record-first.ensures in let two = c.read_record-second.ensures in let made = c.in_ok-words.ensures in
@@ -25,7 +28,11 @@ loop-at-init g c = let one = c.read_record-first.ensures in let two = c.read_rec
 
 pub read_record-requires-clause-known : goal.read_record-requires-clause-known
 read_record-requires-clause-known g c κs within = let i = c.loop-at.invariant in
-    reading_on _ _ c.args.address.unit c.args.address.word c.args.seat.now.me.0 c.loop-at.seat.me.0 c.read_record-first.result c.read_record-second.result c.loop-at.at c.loop-at.words.items i.reading c.requires.known (omega arith)
+    (reading_on _ _ c.args.address.unit c.args.address.word c.args.seat.now.me.0 c.loop-at.seat.me.0 c.read_record-first.result c.read_record-second.result c.loop-at.at c.loop-at.words.items i.reading c.requires.known (omega arith)).0
+
+pub read_record-requires-clause-inside : goal.read_record-requires-clause-inside
+read_record-requires-clause-inside g c κs within = let i = c.loop-at.invariant in
+    (reading_on _ _ c.args.address.unit c.args.address.word c.args.seat.now.me.0 c.loop-at.seat.me.0 c.read_record-first.result c.read_record-second.result c.loop-at.at c.loop-at.words.items i.reading c.requires.known (omega arith)).1
 
 pub loop-at-preserved : goal.loop-at-preserved
 loop-at-preserved g c = let i = c.loop-at.invariant in let more = c.read_record.ensures in let push = c.push_reserved-in-loop-at.ensures in record {
@@ -40,4 +47,7 @@ loop-at-preserved g c = let i = c.loop-at.invariant in let more = c.read_record.
 }
 
 pub returns-clause-learns : goal.returns-clause-learns
-returns-clause-learns g c = let i = c.loop-at.invariant in (i.reading.learns, i.rights)
+returns-clause-learns g c = c.loop-at.invariant.reading.learns
+
+pub returns-clause-rights : goal.returns-clause-rights
+returns-clause-rights g c = c.loop-at.invariant.rights
