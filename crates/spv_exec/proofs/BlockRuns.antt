@@ -7,9 +7,9 @@ use Rattle.std.specs.Map.{lookup}
 use Rattle.std.proofs.lemmas.Option.{slice_get-get_or, slice_get_past}
 use Rattle.std.proofs.lemmas.List.{get_or-drop, get_or-replicate}
 use Rattle.spirv_model.specs.declared.module.Inst.{Inst}
-use Rattle.stage_model.specs.Value.{zeros}
-use Rattle.stage_model.specs.Machine.{Machine, Step, passed, step, step_of, run, go_on, start_at, defined_by}
-use Rattle.stage_model.specs.Stage.{enough_steps}
+use Rattle.spv_exec.specs.FlatValue.{zeros}
+use Rattle.spv_exec.specs.FlatMachine.{Machine, Step, passed, step, step_of, run, go_on, start_at, defined_by}
+use Rattle.spv_exec.specs.FlatStage.{enough_steps}
 use Rattle.spv_exec.specs.declared.values.Value.{Value}
 use Rattle.spv_exec.specs.declared.block.Stepped.{Stepped}
 use Rattle.spv_exec.specs.declared.block.Stepped.TheVariants as stepped

@@ -4,8 +4,8 @@ use Rattle.std.specs.Option.{option_map, option_and_then}
 use Rattle.std.specs.BTreeMap.{BTreeMap}
 use Rattle.spirv_model.specs.declared.module.Inst.{Inst}
 use Rattle.spirv_model.specs.declared.op.TheConstants.{LABEL}
-use Rattle.stage_model.specs.Value.{Value, Word, Composite, Pointer, words_of, words_of_parts, with_words}
-use Rattle.stage_model.specs.Machine.{Machine, Goes, passed, stored, store_step, step_of}
+use Rattle.spv_exec.specs.FlatValue.{Value, Word, Composite, Pointer, words_of, words_of_parts, with_words}
+use Rattle.spv_exec.specs.FlatMachine.{Machine, Goes, passed, stored, store_step, step_of}
 use Rattle.spv_exec.specs.declared.values.Value.TheVariants as shown
 use Rattle.spv_exec.specs.Views.{view, words_view, words_in}
 use Rattle.spv_exec.specs.Steps.{HoldsWords, GoesOn}

@@ -1,8 +1,8 @@
 -- The words of a composite, gathered part by part.
 use Rattle.std.proofs.Common.{◌≡◌, ℕ, ◌+◌, ◌<◌, List, [], ◌∷◌, length, drop, refl, ap, sym, ◌∙◌, append_assoc, append-nil, get_or, drop-cons, add-one, Option, None, Some}
 use Rattle.std.specs.Option.{option_map, option_and_then}
-use Rattle.stage_model.specs.Value.{Value, Word, Composite, Pointer, Parts, NoParts, PartsOf, Values, joined, words_of, words_of_parts}
-use Rattle.stage_model.specs.Machine.{parts_of}
+use Rattle.spv_exec.specs.FlatValue.{Value, Word, Composite, Pointer, Parts, NoParts, PartsOf, Values, joined, words_of, words_of_parts}
+use Rattle.spv_exec.specs.FlatMachine.{parts_of}
 use Rattle.spv_exec.specs.declared.values.Value as shown
 use Rattle.spv_exec.specs.Views.{view, words_view, words_in, composite_view}
 

@@ -3,8 +3,8 @@ use Rattle.std.proofs.Common.{◌≡◌, ℕ, List, subst, sym, ap, ◌∙◌}
 use Rattle.std.specs.BTreeMap.{BTreeMap}
 use Rattle.spirv_model.specs.declared.module.Inst.{Inst}
 use Rattle.spirv_model.specs.declared.op.TheConstants.{CONSTANT, CONSTANT_COMPOSITE, VARIABLE}
-use Rattle.stage_model.specs.Value.{Values}
-use Rattle.stage_model.specs.Machine.{with_definition, with_constant, with_composite, with_variable}
+use Rattle.spv_exec.specs.FlatValue.{Values}
+use Rattle.spv_exec.specs.FlatMachine.{with_definition, with_constant, with_composite, with_variable}
 use Rattle.spv_exec.specs.declared.values.Value.{Value}
 use Rattle.spv_exec.specs.Views.{Holds}
 

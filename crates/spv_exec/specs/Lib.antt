@@ -1,2 +1,5 @@
+pub mod FlatMachine
+pub mod FlatStage
+pub mod FlatValue
 pub mod Steps
 pub mod Views

@@ -6,8 +6,8 @@ use Rattle.std.specs.BTreeMap.{BTreeMap, get}
 use Rattle.stage_model.specs.declared.outcome.Kind.{Kind}
 use Rattle.stage_model.specs.declared.outcome.Kind.TheVariants.{Done}
 use Rattle.limits.specs.declared.TheConstants.{COMPONENTS}
-use Rattle.stage_model.specs.Value.{Memory}
-use Rattle.stage_model.specs.Machine.{Machine, Step, Goes, Ends, passed}
+use Rattle.spv_exec.specs.FlatValue.{Memory}
+use Rattle.spv_exec.specs.FlatMachine.{Machine, Step, Goes, Ends, passed}
 use Rattle.spv_exec.specs.declared.block.Ran.{Ran}
 use Rattle.spv_exec.specs.declared.block.Stepped.{Stepped}
 use Rattle.spv_exec.specs.declared.block.Stepped.TheVariants as stepped

@@ -3,7 +3,7 @@ use Rattle.std.specs.Prelude.{◌≡◌, ℕ, List, [], ◌∷◌, Option, None,
 use Rattle.std.specs.Option.{option_map}
 use Rattle.std.specs.Ordering.{nat_cmp}
 use Rattle.std.specs.BTreeMap.{BTreeMap, get}
-use Rattle.stage_model.specs.Value as machine
+use Rattle.spv_exec.specs.FlatValue as machine
 use Rattle.spv_exec.specs.declared.values.Value.{Value}
 use Rattle.spv_exec.specs.declared.values.Value.TheVariants.{Words, Variable, Other}
 

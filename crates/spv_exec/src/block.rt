@@ -1,8 +1,8 @@
 ghost use Rattle.std.specs.Prelude.{◌≡◌, ℕ, [], ◌∷◌, ◌+◌, ◌<◌, ◌≤◌, length, take, slice_index, nat_lt, if◌then◌else◌, IfOk, OnOk, MatchOption, None};
-ghost use Rattle.stage_model.specs.Value as value;
-ghost use Rattle.stage_model.specs.Value.{with_words};
-ghost use Rattle.stage_model.specs.Machine as machine;
-ghost use Rattle.stage_model.specs.Stage as stage;
+ghost use Rattle.spv_exec.specs.FlatValue as value;
+ghost use Rattle.spv_exec.specs.FlatValue.{with_words};
+ghost use Rattle.spv_exec.specs.FlatMachine as machine;
+ghost use Rattle.spv_exec.specs.FlatStage.{enough_steps};
 ghost use Rattle.spv_exec.specs.Views.{Holds};
 ghost use Rattle.spv_exec.specs.Steps.{HoldsWords, Follows, EndsAs};
 
@@ -36,7 +36,7 @@ pub fn run_block(
 ) -> Result<Option<Ran>, AllocError>
     requires within { first ≤ length insts.now }
     requires defined { Holds values.now (machine.defined_by (take first insts.now)) }
-    ensures { IfOk result (λ ran. EndsAs ran (machine.run (stage.enough_steps insts.now) insts.now (machine.start_at insts.now first))) }
+    ensures { IfOk result (λ ran. EndsAs ran (machine.run (enough_steps insts.now) insts.now (machine.start_at insts.now first))) }
 {
     let mut memory = BTreeMap::new(alloc);
     let mut work = 0;

@@ -1,8 +1,9 @@
 ghost use Rattle.std.specs.Prelude.{◌≡◌, List, Some, IsSome, IfSome, IfOk, ◌<◌, length};
 ghost use Rattle.std.specs.Option.{option_map};
-ghost use Rattle.stage_model.specs.Stage as stage;
-ghost use Rattle.stage_model.specs.Machine as machine;
-ghost use Rattle.stage_model.specs.Value as value;
+ghost use Rattle.spv_exec.specs.FlatStage as flat;
+ghost use Rattle.stage_model.specs.Stage.{ended_of};
+ghost use Rattle.spv_exec.specs.FlatMachine as machine;
+ghost use Rattle.spv_exec.specs.FlatValue as value;
 ghost use Rattle.spv_exec.specs.Steps.{HoldsWords};
 
 use crate::Memory;
@@ -17,8 +18,8 @@ use std::collections::BTreeMap;
 /// The outcome of a module's instructions, where the machine has one: it knows the instructions OpLabel, OpStore and
 /// OpReturn, with constants, their composites and variables.
 pub fn run_flat(alloc: Global, insts: &[Inst]) -> Result<Ended, Memory>
-    requires { IsSome (stage.stage insts.now) }
-    ensures { IfOk result (λ ended. option_map stage.ended_of (stage.stage insts.now) ≡ Some ended) }
+    requires { IsSome (flat.flat_outcome insts.now) }
+    ensures { IfOk result (λ ended. option_map ended_of (flat.flat_outcome insts.now) ≡ Some ended) }
 {
     let Some(first) = first_label(insts) else {
         unreachable!()
@@ -47,7 +48,7 @@ fn first_label(insts: &[Inst]) -> Option<usize>
 
 /// By location, the first four words of the output variable there.
 fn slots(insts: &[Inst], memory: &BTreeMap<u32, [u32; 4]>) -> [[u32; 4]; 8]
-    ensures { (all : value.Memory) → HoldsWords memory.now all → result ≡ stage.slots_of insts.now all }
+    ensures { (all : value.Memory) → HoldsWords memory.now all → result ≡ flat.slots_of insts.now all }
 {
     let mut slots = [[0; COMPONENTS]; LOCATIONS];
     for location in 0..LOCATIONS {
@@ -59,7 +60,7 @@ fn slots(insts: &[Inst], memory: &BTreeMap<u32, [u32; 4]>) -> [[u32; 4]; 8]
 
 /// The first four words of a variable; zeros where there is none.
 fn components(memory: &BTreeMap<u32, [u32; 4]>, variable: Option<u32>) -> [u32; 4]
-    ensures { (all : value.Memory) → HoldsWords memory.now all → result ≡ stage.components_of all variable }
+    ensures { (all : value.Memory) → HoldsWords memory.now all → result ≡ flat.components_of all variable }
 {
     match variable {
         Some(variable) => memory.get(&variable).copied().unwrap_or([0; COMPONENTS]),
@@ -69,7 +70,7 @@ fn components(memory: &BTreeMap<u32, [u32; 4]>, variable: Option<u32>) -> [u32; 
 
 /// The output variable that is decorated so.
 fn output_with(insts: &[Inst], decoration: u32, literal: u32) -> Option<u32>
-    ensures { result ≡ stage.output_with insts.now decoration literal }
+    ensures { result ≡ flat.output_with insts.now decoration literal }
 {
     insts
         .iter()
@@ -78,7 +79,7 @@ fn output_with(insts: &[Inst], decoration: u32, literal: u32) -> Option<u32>
 }
 
 fn decorated(inst: &Inst, decoration: u32, literal: u32) -> Option<u32>
-    ensures { result ≡ stage.decorated_by decoration literal inst.now }
+    ensures { result ≡ flat.decorated_by decoration literal inst.now }
 {
     if inst.op != op::DECORATE {
         return None;
@@ -90,13 +91,13 @@ fn decorated(inst: &Inst, decoration: u32, literal: u32) -> Option<u32>
 }
 
 fn is_output(insts: &[Inst], id: u32) -> bool
-    ensures { result ≡ stage.is_output insts.now id }
+    ensures { result ≡ flat.is_output insts.now id }
 {
     insts.iter().any(|inst| makes_output(inst, id))
 }
 
 fn makes_output(inst: &Inst, id: u32) -> bool
-    ensures { result ≡ stage.is_output_variable id inst.now }
+    ensures { result ≡ flat.is_output_variable id inst.now }
 {
     inst.op == op::VARIABLE
         && matches!(inst.words.as_slice(), [_, variable, class] if *variable == id && *class == storage_class::OUTPUT)

@@ -1,5 +1,5 @@
 ghost use Rattle.std.specs.Prelude.{◌≡◌, IsSome, IfOk};
-ghost use Rattle.stage_model.specs.Stage as stage;
+ghost use Rattle.spv_exec.specs.FlatStage.{flat_outcome};
 
 use crate::{Inst, Items, Kind, Memory, run_flat};
 use spirv_model::op;
@@ -15,7 +15,7 @@ fn inst(alloc: Global, op: u16, words: &[u32]) -> Result<Inst, Memory>
 
 /// The instructions that store (128, 128, 0, 0) as the position and 42 at location 0.
 fn two_stores(alloc: Global) -> Result<Items<Inst>, Memory>
-    ensures { IfOk result (λ insts. IsSome (stage.stage insts)) }
+    ensures { IfOk result (λ insts. IsSome (flat_outcome insts)) }
 {
     let mut insts = Items::new(alloc);
     insts.push(inst(alloc, op::DECORATE, &[6, 11, 0])?)?;

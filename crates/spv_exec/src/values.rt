@@ -1,8 +1,8 @@
 ghost use Rattle.std.specs.Prelude.{◌≡◌, IfOk, OnOk};
 ghost use Rattle.std.specs.Option.{option_map};
-ghost use Rattle.stage_model.specs.Value as value;
-ghost use Rattle.stage_model.specs.Value.{joined};
-ghost use Rattle.stage_model.specs.Machine as machine;
+ghost use Rattle.spv_exec.specs.FlatValue as value;
+ghost use Rattle.spv_exec.specs.FlatValue.{joined};
+ghost use Rattle.spv_exec.specs.FlatMachine as machine;
 ghost use Rattle.spv_exec.specs.Views.{Holds, composite_view, words_in};
 
 use spirv_model::{Inst, Items, op};

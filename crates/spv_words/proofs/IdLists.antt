@@ -9,9 +9,9 @@ use Rattle.spirv_model.specs.declared.class.Class.{Class}
 use Rattle.spirv_model.specs.declared.table.Operands.{Operands}
 use Rattle.spirv_model.specs.declared.table.Entry.TheVariants.{Listed}
 use Rattle.spirv_model.specs.declared.table.Rest.{Rest}
-use Rattle.spirv_model.specs.declared.table.Rest.TheVariants.{Nothing, IdRefs, LiteralIntegers, PairsIdRefIdRef}
-use Rattle.spirv_model.specs.Operands.{operand_words, kinds_from, rest_kinds, is_id, ids_among, ids_by, entry_of, listed_of, kinds_in, kinds, ids}
-use Rattle.spv_words.specs.Ids.{ids_left, are_ids}
+use Rattle.spirv_model.specs.declared.table.Rest.TheVariants.{Nothing, IdRefs, LiteralIntegers, PairsIdRefIdRef, PairsLiteralIntegerIdRef}
+use Rattle.spirv_model.specs.Operands.{operand_words, literal_and_id, kinds_from, rest_kinds, is_id, ids_among, ids_by, entry_of, listed_of, kinds_in, kinds, ids}
+use Rattle.spv_words.specs.Ids.{second_words, rest_ids, ids_left}
 
 no-words : (kinds : List Operand) → ids_among kinds [] ≡ []
 no-words [] = refl
@@ -25,17 +25,24 @@ no-ids : (words : List ℕ) → ids_among (map (λ _. LiteralInteger) words) wor
 no-ids [] = refl
 no-ids (word ∷ words) = no-ids words
 
+by-turns : (words : List ℕ) → ids_among (literal_and_id words) words ≡ second_words words
+by-turns [] = refl
+by-turns (literal ∷ []) = refl
+by-turns (literal ∷ id ∷ words) = ap (λ ids. id ∷ ids) (by-turns words)
+
 chosen : (b : Bool) (x y : List Operand) → cond b (Some x) None ≡ Some y → x ≡ y
 chosen true x y h = cc
 chosen false x y h = cc
 
-rest-ids : (rest : Rest) (words : List ℕ) (kinds : List Operand) → rest_kinds rest words ≡ Some kinds → ids_among kinds words ≡ cond (are_ids rest) words []
+rest-ids : (rest : Rest) (words : List ℕ) (kinds : List Operand) → rest_kinds rest words ≡ Some kinds → ids_among kinds words ≡ rest_ids rest words
 rest-ids Nothing [] kinds h = no-words kinds
 rest-ids Nothing (word ∷ words) kinds h = cc
 rest-ids IdRefs words kinds h = let e : map (λ _. IdRef) words ≡ kinds = cc in ap (λ ks. ids_among ks words) (sym e) ∙ all-ids words
 rest-ids LiteralIntegers words kinds h = let e : map (λ _. LiteralInteger) words ≡ kinds = cc in ap (λ ks. ids_among ks words) (sym e) ∙ no-ids words
 rest-ids PairsIdRefIdRef words kinds h =
     ap (λ ks. ids_among ks words) (sym (chosen (length words % 2 == 0) (map (λ _. IdRef) words) kinds h)) ∙ all-ids words
+rest-ids PairsLiteralIntegerIdRef words kinds h =
+    ap (λ ks. ids_among ks words) (sym (chosen (length words % 2 == 0) (literal_and_id words) kinds h)) ∙ by-turns words
 
 one-more : (b : Bool) (word : ℕ) (ids run rest : List ℕ) → ids ≡ cond b run [] ++ rest → cond b (word ∷ ids) ids ≡ cond b (word ∷ run) [] ++ rest
 one-more true word ids run rest h = ap (λ xs. word ∷ xs) h

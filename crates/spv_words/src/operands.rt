@@ -1,7 +1,7 @@
 ghost use Rattle.std.specs.Prelude.{◌≡◌, ◌≤◌, ◌&&◌, nat_lt, [], ◌∷◌, ◌++◌, length, None, is_some, IfSome, MatchOption};
 ghost use Rattle.std.specs.List.{list_all};
 ghost use Rattle.spirv_model.specs.Operands as spec;
-ghost use Rattle.spv_words.specs.Ids.{are_ids, ids_left};
+ghost use Rattle.spv_words.specs.Ids.{rest_ids, ids_left};
 
 use crate::table::entry_of;
 use spirv_model::Inst;
@@ -62,12 +62,9 @@ impl<'a> OperandIds<'a> {
                 return own.first().copied();
             }
         }
-        if !are_ids(self.operands.rest) {
-            return None;
-        }
-        let (first, after) = self.words.split_first()?;
+        let (id, after) = first_of_rest(self.operands.rest, self.words)?;
         self.words = after;
-        Some(*first)
+        Some(id)
     }
 }
 
@@ -139,7 +136,7 @@ fn rest_fits(rest: Rest, words: &[u32]) -> bool
     match rest {
         Rest::Nothing => words.is_empty(),
         Rest::IdRefs | Rest::LiteralIntegers => true,
-        Rest::PairsIdRefIdRef => words.len() % 2 == 0,
+        Rest::PairsIdRefIdRef | Rest::PairsLiteralIntegerIdRef => words.len() % 2 == 0,
     }
 }
 
@@ -208,9 +205,21 @@ fn is_id(operand: Operand) -> bool
     )
 }
 
-/// Whether the operands after the listed ones are ids.
-fn are_ids(rest: Rest) -> bool
-    ensures { result ≡ are_ids rest }
+/// The first id among words after the listed operands, and the words behind it.
+fn first_of_rest(rest: Rest, words: &[u32]) -> Option<(u32, &[u32])>
+    ensures { MatchOption result (rest_ids rest words.now ≡ []) (λ found. rest_ids rest words.now ≡ found.0 ∷ rest_ids rest found.1.now) }
 {
-    matches!(rest, Rest::IdRefs | Rest::PairsIdRefIdRef)
+    match rest {
+        Rest::Nothing | Rest::LiteralIntegers => None,
+        Rest::IdRefs | Rest::PairsIdRefIdRef => {
+            let (id, after) = words.split_first()?;
+            Some((*id, after))
+        }
+        Rest::PairsLiteralIntegerIdRef => {
+            let [_, id, after @ ..] = words else {
+                return None;
+            };
+            Some((*id, after))
+        }
+    }
 }

@@ -103,8 +103,8 @@ fn the_first_fault_is_answered(rt: HostRuntime) -> Result<(), Fail> {
         (&[0x20009], WordsFault::CutShort),
         (&[0x10009], WordsFault::UnknownOp(9)),
         (
-            &[0x20011, 1, 0x100fb, 0x00000011],
-            WordsFault::UnknownOp(251),
+            &[0x20011, 1, 0x100fe, 0x00000011],
+            WordsFault::UnknownOp(254),
         ),
         (
             &[0x10000, 0x1ffff, 0x20011],
@@ -137,7 +137,7 @@ fn the_first_fault_is_answered(rt: HostRuntime) -> Result<(), Fail> {
 
 #[test]
 fn words_fit_their_operands(rt: HostRuntime) -> Result<(), Fail> {
-    let cases: [(&[u32], bool); 20] = [
+    let cases: [(&[u32], bool); 23] = [
         // OpExtInstImport: a text ends in its first word with a zero byte, which zeros fill
         (&[0x3000b, 1, 0], true),
         (&[0x3000b, 1, 0x414141], true),
@@ -157,6 +157,10 @@ fn words_fit_their_operands(rt: HostRuntime) -> Result<(), Fail> {
         (&[0x300f5, 1, 2], true),
         (&[0x400f5, 1, 2, 3], false),
         (&[0x500f5, 1, 2, 3, 4], true),
+        // OpSwitch: pairs after the selector and the default
+        (&[0x300fb, 1, 2], true),
+        (&[0x400fb, 1, 2, 0], false),
+        (&[0x500fb, 1, 2, 0, 3], true),
         // OpAccessChain and OpCompositeExtract: one index at least
         (&[0x40041, 1, 2, 3], false),
         (&[0x50041, 1, 2, 3, 4], true),
@@ -185,7 +189,7 @@ fn inst(alloc: Global, op: u16, words: &[u32]) -> Result<Inst, AllocError> {
 
 #[test]
 fn ids_stand_where_the_table_says(rt: HostRuntime) -> Result<(), Fail> {
-    let cases: [(u16, &[u32], Option<u32>, &[u32]); 7] = [
+    let cases: [(u16, &[u32], Option<u32>, &[u32]); 8] = [
         (
             op::ENTRY_POINT,
             &[0, 10, 0x6e69616d, 0, 6, 8],
@@ -195,6 +199,7 @@ fn ids_stand_where_the_table_says(rt: HostRuntime) -> Result<(), Fail> {
         (op::CONSTANT, &[3, 7, 42], Some(7), &[3, 7]),
         (op::TYPE_STRUCT, &[5, 3, 4], Some(5), &[5, 3, 4]),
         (op::PHI, &[3, 7, 1, 2, 4, 5], Some(7), &[3, 7, 1, 2, 4, 5]),
+        (op::SWITCH, &[3, 9, 70, 1, 80, 2], None, &[3, 9, 1, 2]),
         (op::STORE, &[6, 9], None, &[6, 9]),
         (op::RETURN, &[], None, &[]),
         (op::NAME, &[6, 0], None, &[]),

@@ -1,4 +1,4 @@
-use Rattle.stage_model.specs.Machine.{Machine}
+use Rattle.spv_exec.specs.FlatMachine.{Machine}
 use Rattle.spv_exec.proofs.BlockRuns.{IsAt}
 use Rattle.spv_exec.proofs.block.run_block.Given as goal
 

@@ -1,6 +1,6 @@
 use Rattle.std.proofs.Common.{ℕ, List, ◌∙◌, ap, arith, length-set}
 use Rattle.spirv_model.specs.declared.decoration.TheConstants.{LOCATION}
-use Rattle.stage_model.specs.Stage.{components_of, output_with}
+use Rattle.spv_exec.specs.FlatStage.{components_of, output_with}
 use Rattle.spv_exec.proofs.Filled.{filled_next, filled}
 use Rattle.spv_exec.proofs.run.slots.Goals as goal
 

@@ -1,7 +1,7 @@
 use Rattle.std.proofs.Common.{◌≡◌, ℕ, ◌<◌, length, get_or, []}
-use Rattle.stage_model.specs.Value.{Memory}
+use Rattle.spv_exec.specs.FlatValue.{Memory}
 use Rattle.spirv_model.specs.declared.decoration.TheConstants.{LOCATION}
-use Rattle.stage_model.specs.Stage.{components_of, output_with}
+use Rattle.spv_exec.specs.FlatStage.{components_of, output_with}
 use Rattle.spv_exec.specs.Steps.{HoldsWords}
 use Rattle.spv_exec.proofs.run.slots.Given as goal
 

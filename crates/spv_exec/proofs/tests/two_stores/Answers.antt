@@ -1,6 +1,6 @@
 use Rattle.std.proofs.Common.{◌≡◌, ℕ, IsSome, List, [], ◌∷◌, refl, arith}
 use Rattle.spirv_model.specs.declared.module.Inst.{Inst}
-use Rattle.stage_model.specs.Stage as stage
+use Rattle.spv_exec.specs.FlatStage.{flat_outcome}
 use Rattle.spv_exec.proofs.tests.two_stores.Goals as goal
 
 abbrev instruction : ℕ → List ℕ → Inst
@@ -23,7 +23,7 @@ instructions =
     ∷ instruction 253 []
     ∷ []
 
-has_outcome : (insts : List Inst) → insts ≡ instructions → IsSome (stage.stage insts)
+has_outcome : (insts : List Inst) → insts ≡ instructions → IsSome (flat_outcome insts)
 has_outcome insts e = rw e refl
 
 pub returns : goal.returns

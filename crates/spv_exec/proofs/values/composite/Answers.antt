@@ -1,5 +1,5 @@
 use Rattle.std.proofs.Common.{ℕ, ◌+◌, List, get_or, drop, ap, sym, ◌∙◌}
-use Rattle.stage_model.specs.Machine.{parts_of}
+use Rattle.spv_exec.specs.FlatMachine.{parts_of}
 use Rattle.spv_exec.proofs.CompositeWords.{words_after, words_with_part, composite_without, drop_first}
 use Rattle.spv_exec.proofs.values.composite.Goals as goal
 

@@ -1,7 +1,7 @@
 use Rattle.std.proofs.Common.{◌≡◌, drop}
 use Rattle.std.specs.Option.{option_map}
-use Rattle.stage_model.specs.Value as value
-use Rattle.stage_model.specs.Machine.{parts_of}
+use Rattle.spv_exec.specs.FlatValue as value
+use Rattle.spv_exec.specs.FlatMachine.{parts_of}
 use Rattle.spv_exec.specs.Views.{Holds}
 use Rattle.spv_exec.proofs.CompositeWords.{words_after}
 use Rattle.spv_exec.proofs.values.composite.Given as goal

@@ -1,7 +1,7 @@
 use Rattle.std.proofs.Common.{ap, sym, subst, ◌∙◌}
 use Rattle.std.proofs.lemmas.List.Sums.{fold_more}
-use Rattle.stage_model.specs.Value.{Values, no_values}
-use Rattle.stage_model.specs.Machine.{with_definition}
+use Rattle.spv_exec.specs.FlatValue.{Values, no_values}
+use Rattle.spv_exec.specs.FlatMachine.{with_definition}
 use Rattle.spv_exec.specs.Views.{Holds}
 use Rattle.spv_exec.proofs.values.defined_by.Goals as goal
 

@@ -1,5 +1,5 @@
 use Rattle.std.proofs.Common.{take}
-use Rattle.stage_model.specs.Machine.{defined_by}
+use Rattle.spv_exec.specs.FlatMachine.{defined_by}
 use Rattle.spv_exec.specs.Views.{Holds}
 use Rattle.spv_exec.proofs.values.defined_by.Given as goal
 
