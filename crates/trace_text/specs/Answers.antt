@@ -1,5 +1,5 @@
 -- What the readers answer, beside the definition of the form.
-use Rattle.std.specs.Prelude.{◌≡◌, ℕ, ◌==◌, List, [], Option, None, Some, Result, Ok, Err}
+use Rattle.std.specs.Prelude.{◌≡◌, ℕ, ◌==◌, List, [], ◌∷◌, Option, None, Some, Result, Ok, Err}
 use Rattle.std.specs.List.{slice_split}
 use Rattle.std.specs.Borrow.{Bor}
 use Rattle.trace_model.specs.declared.trace.Trace.{Trace}
@@ -7,10 +7,14 @@ use Rattle.trace_model.specs.declared.trace.TraceFault.{TraceFault}
 use Rattle.trace_model.specs.declared.trace.Cause.{Cause}
 use Rattle.trace_model.specs.declared.trace.Cause.TheVariants.{NotYet, Memory}
 
+-- the parts of a text, cut at each separator
+abbrev pub parts_of : ℕ → List ℕ → List (List ℕ)
+parts_of separator bytes = slice_split (λ b. b == separator) bytes
+
 -- the parts of a text that are left
 abbrev pub parts_left : Option (Bor (List ℕ)) → ℕ → List (List ℕ)
 parts_left None separator = []
-parts_left (Some rest) separator = slice_split (λ b. b == separator) rest.now
+parts_left (Some rest) separator = parts_of separator rest.now
 
 -- where reading has no answer; of want of memory nothing is said
 abbrev pub Fails : {Y : Type 0} → Cause → Option Y → Type 0
@@ -26,3 +30,8 @@ Gives view (Err cause) read = Fails cause read
 abbrev pub GivesTrace : Result Trace TraceFault → Option Trace → Type 0
 GivesTrace (Ok trace) read = read ≡ Some trace
 GivesTrace (Err fault) read = (fault.line ≡ 0) × Fails fault.cause read
+
+-- the first part was taken, if one was left
+abbrev pub TakesFirst : Option (Bor (List ℕ)) → List (List ℕ) → List (List ℕ) → Type 0
+TakesFirst None before after = (before ≡ []) × (after ≡ [])
+TakesFirst (Some part) before after = before ≡ part.now ∷ after

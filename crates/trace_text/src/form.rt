@@ -3,9 +3,9 @@ ghost use Rattle.trace_model.specs.Meaning.{meaning};
 ghost use Rattle.trace_model.specs.Form as form;
 ghost use Rattle.trace_text.specs.Answers.{Gives, GivesTrace};
 
+use crate::field_cursor::FieldCursor;
 use crate::modules::{fragment_of, vertex_of};
 use crate::numbers::{side_value, word_value, word_values};
-use crate::parts::Parts;
 use draw_model::Target;
 use spirv_model::Words;
 use std::alloc::Global;
@@ -29,11 +29,11 @@ fn trace_of(alloc: Global, bytes: &[u8]) -> Result<Trace, Cause>
     if bytes.len() > TRACE_LIMIT {
         return Err(Cause::NotYet);
     }
-    let mut lines = Parts::new(bytes, b'\n');
+    let mut lines = FieldCursor::new(bytes, b'\n');
     trace_of_lines(alloc, &mut lines)
 }
 
-fn trace_of_lines(alloc: Global, lines: &mut Parts<'_>) -> Result<Trace, Cause>
+fn trace_of_lines(alloc: Global, lines: &mut FieldCursor<'_>) -> Result<Trace, Cause>
     ensures { Gives (λ trace. trace) result (form.trace_of_lines lines.old) }
 {
     lines.expect(b"gplt 1")?;
@@ -53,12 +53,12 @@ fn trace_of_lines(alloc: Global, lines: &mut Parts<'_>) -> Result<Trace, Cause>
 fn code_words(alloc: Global, line: &[u8]) -> Result<Vec<u32>, Cause>
     ensures { Gives (λ words. words.items) result (form.code_words line.now) }
 {
-    let mut fields = Parts::new(line, b' ');
+    let mut fields = FieldCursor::new(line, b' ');
     fields.expect(b"code")?;
     word_values(alloc, &mut fields)
 }
 
-fn vertex_line(alloc: Global, lines: &mut Parts<'_>) -> Result<Words, Cause>
+fn vertex_line(alloc: Global, lines: &mut FieldCursor<'_>) -> Result<Words, Cause>
     ensures { Gives (λ found. (found, lines.new)) result (form.vertex_line lines.old) }
 {
     let Some(line) = lines.next_part() else {
@@ -69,7 +69,7 @@ fn vertex_line(alloc: Global, lines: &mut Parts<'_>) -> Result<Words, Cause>
     Ok(module)
 }
 
-fn fragment_line(alloc: Global, lines: &mut Parts<'_>) -> Result<Words, Cause>
+fn fragment_line(alloc: Global, lines: &mut FieldCursor<'_>) -> Result<Words, Cause>
     ensures { Gives (λ found. (found, lines.new)) result (form.fragment_line lines.old) }
 {
     let Some(line) = lines.next_part() else {
@@ -80,7 +80,7 @@ fn fragment_line(alloc: Global, lines: &mut Parts<'_>) -> Result<Words, Cause>
     Ok(module)
 }
 
-fn pipeline_lines(lines: &mut Parts<'_>) -> Result<(), Cause>
+fn pipeline_lines(lines: &mut FieldCursor<'_>) -> Result<(), Cause>
     ensures { Gives (λ _. lines.new) result (form.pipeline_lines lines.old) }
 {
     lines.expect(b"layout 0 0 - - - -")?;
@@ -92,7 +92,7 @@ fn pipeline_lines(lines: &mut Parts<'_>) -> Result<(), Cause>
     Ok(())
 }
 
-fn side_field(fields: &mut Parts<'_>) -> Result<u32, Cause>
+fn side_field(fields: &mut FieldCursor<'_>) -> Result<u32, Cause>
     ensures { Gives (λ side. (side, fields.new)) result (form.side_field fields.old) }
 {
     let Some(field) = fields.next_part() else {
@@ -102,7 +102,7 @@ fn side_field(fields: &mut Parts<'_>) -> Result<u32, Cause>
     Ok(side)
 }
 
-fn word_field(fields: &mut Parts<'_>) -> Result<u32, Cause>
+fn word_field(fields: &mut FieldCursor<'_>) -> Result<u32, Cause>
     ensures { Gives (λ word. (word, fields.new)) result (form.word_field fields.old) }
 {
     let Some(field) = fields.next_part() else {
@@ -112,7 +112,7 @@ fn word_field(fields: &mut Parts<'_>) -> Result<u32, Cause>
     Ok(word)
 }
 
-fn before_sides(fields: &mut Parts<'_>) -> Result<(), Cause>
+fn before_sides(fields: &mut FieldCursor<'_>) -> Result<(), Cause>
     ensures { Gives (λ _. fields.new) result (form.before_sides fields.old) }
 {
     fields.expect(b"target")?;
@@ -121,7 +121,7 @@ fn before_sides(fields: &mut Parts<'_>) -> Result<(), Cause>
     Ok(())
 }
 
-fn after_sides(fields: &mut Parts<'_>) -> Result<(), Cause>
+fn after_sides(fields: &mut FieldCursor<'_>) -> Result<(), Cause>
     ensures { Gives (λ _. fields.new) result (form.after_sides fields.old) }
 {
     fields.expect(b"1")?;
@@ -132,7 +132,7 @@ fn after_sides(fields: &mut Parts<'_>) -> Result<(), Cause>
 fn target_of(line: &[u8]) -> Result<Target, Cause>
     ensures { Gives (λ target. target) result (form.target_of line.now) }
 {
-    let mut fields = Parts::new(line, b' ');
+    let mut fields = FieldCursor::new(line, b' ');
     before_sides(&mut fields)?;
     let width = side_field(&mut fields)?;
     let height = side_field(&mut fields)?;
@@ -146,7 +146,7 @@ fn target_of(line: &[u8]) -> Result<Target, Cause>
     })
 }
 
-fn target_line(lines: &mut Parts<'_>) -> Result<Target, Cause>
+fn target_line(lines: &mut FieldCursor<'_>) -> Result<Target, Cause>
     ensures { Gives (λ target. (target, lines.new)) result (form.target_line lines.old) }
 {
     let Some(line) = lines.next_part() else {
@@ -156,7 +156,7 @@ fn target_line(lines: &mut Parts<'_>) -> Result<Target, Cause>
     Ok(target)
 }
 
-fn draw_lines(lines: &mut Parts<'_>) -> Result<(), Cause>
+fn draw_lines(lines: &mut FieldCursor<'_>) -> Result<(), Cause>
     ensures { Gives (λ u. u) result (form.draw_lines lines.old) }
 {
     lines.expect(b"bind 0 0 - - - -")?;

@@ -1,10 +1,10 @@
 //! The text of traces, and the text that a play prints.
 #![tactic(auto)]
 
+mod field_cursor;
 mod form;
 mod modules;
 mod numbers;
-mod parts;
 mod print;
 
 pub use form::read_trace;

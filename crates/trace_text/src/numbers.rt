@@ -3,7 +3,7 @@ ghost use Rattle.trace_model.specs.Text as text;
 ghost use Rattle.trace_model.specs.Form.{side_value};
 ghost use Rattle.trace_text.specs.Answers.{Gives};
 
-use crate::parts::Parts;
+use crate::field_cursor::FieldCursor;
 use std::alloc::Global;
 use trace_model::{Cause, SIDE_LIMIT};
 
@@ -36,7 +36,7 @@ fn hex_value(b: u8) -> Option<u32>
 }
 
 /// The words that all fields left spell.
-pub fn word_values(alloc: Global, fields: &mut Parts<'_>) -> Result<Vec<u32>, Cause>
+pub fn word_values(alloc: Global, fields: &mut FieldCursor<'_>) -> Result<Vec<u32>, Cause>
     ensures { Gives (λ words. words.items) result (text.word_values fields.old) }
 {
     let mut words = Vec::new(alloc);

@@ -1,5 +1,6 @@
 use crate::{Cause, TraceFault, print_target, read_trace};
 use draw_model::Target;
+use std::alloc::{AllocError, Global};
 use std::test::Fail;
 
 /// One point in colour 42 on a target of two pixels.
@@ -59,5 +60,31 @@ fn a_target_is_printed_row_by_row(rt: HostRuntime) -> Result<(), Fail> {
         text.as_slice(),
         b"target 0 u1 2 1 1 1\n0000002a 00000000\n".as_slice()
     );
+    Ok(())
+}
+
+/// The trace with a target of this width.
+fn with_width(alloc: Global, width: &str) -> Result<Vec<u8>, AllocError> {
+    let mut text = Vec::new(alloc);
+    let Some(at) = TRACE
+        .windows(12)
+        .position(|part| part == b"target 0 u1 ".as_slice())
+    else {
+        return Ok(text);
+    };
+    let (before, after) = TRACE.split_at(at + 12);
+    let (_, rest) = after.split_at(1);
+    text.extend_from_slice(before)?;
+    text.extend_from_slice(width.as_bytes())?;
+    text.extend_from_slice(rest)?;
+    Ok(text)
+}
+
+#[test]
+fn sides_are_1_to_256(rt: HostRuntime) -> Result<(), Fail> {
+    for (width, is_read) in [("0", false), ("1", true), ("256", true), ("257", false)] {
+        let text = with_width(rt.alloc(), width)?;
+        assert_eq!(rt; read_trace(rt.alloc(), &text).is_ok(), is_read);
+    }
     Ok(())
 }

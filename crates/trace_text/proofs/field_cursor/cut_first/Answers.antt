@@ -1,7 +1,7 @@
 use Rattle.std.proofs.Common.{◌==◌, ◌∷◌, List, ℕ, ◌+◌, drop, ap, sym, ◌∙◌}
 use Rattle.std.specs.List.{slice_split}
 use Rattle.trace_text.proofs.SplitParts.{split_at_place, split_nowhere}
-use Rattle.trace_text.proofs.parts.cut_first.Goals as goal
+use Rattle.trace_text.proofs.field_cursor.cut_first.Goals as goal
 
 pub returns-in-Some : goal.returns-in-Some
 returns-in-Some c =

@@ -1,19 +1,19 @@
-ghost use Rattle.std.specs.Prelude.{◌≡◌, ◌==◌, [], ◌∷◌, ◌<◌, length, IfSome, MatchOption, position};
-ghost use Rattle.std.specs.List.{slice_split};
+ghost use Rattle.std.specs.Prelude.{◌≡◌, ◌==◌, ◌∷◌, ◌<◌, length, IfSome, position};
 ghost use Rattle.trace_model.specs.Text.{after_part, no_part};
-ghost use Rattle.trace_text.specs.Answers.{Gives, parts_left};
+ghost use Rattle.trace_text.specs.Answers.{Gives, TakesFirst, parts_left, parts_of};
 
 use std::marker::Model;
 use trace_model::Cause;
 
-/// The parts of a text that are left to be read, where it is cut at each separator. Contracts see them as a list.
+/// Goes over the fields of a line, or the lines of a text: over the parts that are left, where it is cut at each separator.
+/// Contracts see it as the list of these parts.
 #[derive(Drop)]
-pub struct Parts<'a> {
+pub struct FieldCursor<'a> {
     rest: Option<&'a [u8]>,
     separator: u8,
 }
 
-impl<'a> Model for Parts<'a> {
+impl<'a> Model for FieldCursor<'a> {
     ghost use Rattle.std.specs.Prelude.{List, ℕ};
     ghost use Rattle.trace_text.specs.Answers.{parts_left};
 
@@ -22,12 +22,12 @@ impl<'a> Model for Parts<'a> {
     ghost view = { λ p. parts_left p.rest p.separator };
 }
 
-impl<'a> Parts<'a> {
+impl<'a> FieldCursor<'a> {
     /// All parts of these bytes.
-    pub fn new(bytes: &'a [u8], separator: u8) -> Parts<'a>
-        ensures { result ≡ slice_split (λ b. b == separator) bytes.now }
+    pub fn new(bytes: &'a [u8], separator: u8) -> FieldCursor<'a>
+        ensures { result ≡ parts_of separator bytes.now }
     {
-        Parts {
+        FieldCursor {
             rest: Some(bytes),
             separator,
         }
@@ -35,7 +35,7 @@ impl<'a> Parts<'a> {
 
     /// The next part, if one is left.
     pub fn next_part(&mut self) -> Option<&'a [u8]>
-        ensures { MatchOption result ((self.old ≡ []) × (self.new ≡ [])) (λ part. self.old ≡ part.now ∷ self.new) }
+        ensures { TakesFirst result self.old self.new }
     {
         let rest = self.rest?;
         let (part, after) = cut_first(rest, self.separator);
@@ -69,7 +69,7 @@ impl<'a> Parts<'a> {
 
 /// The first part, and what stands after its separator, if it has one.
 fn cut_first(bytes: &[u8], separator: u8) -> (&[u8], Option<&[u8]>)
-    ensures { slice_split (λ b. b == separator) bytes.now ≡ result.0.now ∷ parts_left result.1 separator }
+    ensures { parts_of separator bytes.now ≡ result.0.now ∷ parts_left result.1 separator }
 {
     match place_of(bytes, separator) {
         Some(at) => {
