@@ -1,2 +1,3 @@
+pub mod FlatModules
 pub mod Outcomes
 pub mod Streams

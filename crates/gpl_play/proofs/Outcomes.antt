@@ -1,6 +1,6 @@
 -- What was read is what was left to be read, where it is a trace, and what follows for the statuses.
-use Rattle.std.proofs.Common.{◌≡◌, ◌≢◌, ℕ, ◌+◌, ◌≤◌, Bool, true, false, cond, List, ◌++◌, length, refl, ap, sym, ◌∙◌, arith, append-nil, ◌⊎◌, inl, inr, Option, None, Some}
-use Rattle.std.specs.Prelude.{IfSome, IsSome, nat_le}
+use Rattle.std.proofs.Common.{◌≡◌, ℕ, ◌≤◌, Bool, true, false, cond, List, ◌++◌, length, refl, ap, sym, ◌∙◌, arith, append-nil, ◌⊎◌, inl, inr, Option, None, Some}
+use Rattle.std.specs.Prelude.{IfSome}
 use Rattle.std.specs.Io.KnownBytes.{Appends, Consumes, IsAtEnd}
 use Rattle.std.proofs.lemmas.Bool.Decides.{nat_tests}
 use Rattle.trace_model.specs.declared.trace.Trace.{Trace}

@@ -1,3 +1,4 @@
+pub mod Modules
 pub mod Reads
 pub mod Runs
 pub mod Writes

@@ -1,9 +1,8 @@
 -- What a run reads and writes.
-use Rattle.std.specs.Prelude.{◌≡◌, ℕ, List, [], ◌∷◌, codes, Option, None, Some, IfSome, IsSome}
-use Rattle.std.specs.Io.KnownBytes.{Appends, IsAtEnd}
+use Rattle.std.specs.Prelude.{◌≡◌, ℕ, List, [], ◌∷◌, codes, Option, None, Some, IfSome}
+use Rattle.std.specs.Io.KnownBytes.{Appends}
 use Rattle.trace_model.specs.Form.{trace_of}
 use Rattle.trace_model.specs.Output.{due_to}
-use Rattle.gpl_play.specs.Reads.{Reads}
 use Rattle.gpl_play.specs.Writes.{WritesFront}
 
 -- the words of a play

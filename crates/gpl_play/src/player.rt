@@ -8,6 +8,7 @@ ghost use Rattle.trace_model.specs.Meaning.{meaning};
 ghost use Rattle.trace_model.specs.Output.{due_text};
 ghost use Rattle.trace_model.specs.declared.trace.TraceFault.{TraceFault};
 ghost use Rattle.trace_model.specs.declared.trace.Cause.TheVariants.{NotYet};
+ghost use Rattle.gpl_play.specs.Modules.{HasFlatModules};
 ghost use Rattle.gpl_play.specs.Reads.{Reads};
 ghost use Rattle.gpl_play.specs.Runs.{IsPlay, WritesDue, WritesDueFront, IsNoTrace};
 
@@ -134,6 +135,7 @@ fn refused(fault: TraceFault) -> Outcome
 fn play(alloc: Global, trace: &Trace) -> Result<Vec<u8>, AllocError>
     requires means { IsSome (meaning trace.now) }
     requires target { HasLimitedSides trace.now.target }
+    requires modules { HasFlatModules trace.now }
     ensures { IfOk result (λ text. due_text trace.now ≡ Some text.items) }
 {
     let vertex = run_flat(alloc, trace.vertex.insts.as_slice())?;
