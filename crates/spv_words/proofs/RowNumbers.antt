@@ -85,7 +85,7 @@ unfolding row_number
 few_numbers [] op = omega arith
 few_numbers (row ∷ rows) op = few_more (row.op == op) (row_number rows op) (length rows) (few_numbers rows op)
 
-pub row_within : (op number : ℕ) → number ≡ row_number ROWS op → number ≤ 91
+pub row_within : (op number : ℕ) → number ≡ row_number ROWS op → number ≤ 92
 row_within op number is = omega (arith, is, few_numbers ROWS op)
 
 pub entry_by_row : (op number : ℕ) (d : Row) → number ≡ row_number ROWS op → (number ≡ 0 → ⊥) → Some (get_or ROWS (number - 1) d).entry ≡ entry_of op
