@@ -5,10 +5,10 @@ use Rattle.inst_table.specs.Lawful.{IsOneWay}
 use Rattle.inst_table.specs.declared.pass.Address.{Address}
 use Rattle.inst_table.specs.declared.view.View.{View}
 
--- the word that was read
-abbrev pub address_word : Option Address → ℕ
-address_word None = 0
-address_word (Some address) = address.word
+-- the word that an answer stands for
+abbrev pub word_in : Option Address → ℕ
+word_in None = 0
+word_in (Some address) = address.word
 
 -- One load of the unit's address word, which gave this word. It is the one that was known, which isn't 0, and what the loads of an address gave goes one way.
 pub record LoadsAddress (v w : View) (unit word : ℕ) : Type 0 where
