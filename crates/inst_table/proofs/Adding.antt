@@ -11,11 +11,9 @@ use Rattle.inst_table.specs.Passes.{KnowsRow}
 use Rattle.inst_table.proofs.Appends.{note_knows}
 use Rattle.inst_table.specs.Layout.{next_place}
 use Rattle.inst_table.specs.Chain.{key_at}
-use Rattle.inst_table.specs.Creations.{add, IfNew, IfOld, IfFull}
+use Rattle.inst_table.specs.Creations.{add}
 use Rattle.inst_table.specs.Lawful.{NoneBetween}
 use Rattle.inst_table.specs.Plays.{IsOfRows, AreSound}
-use Rattle.inst_table.specs.declared.creator.Created.{Created}
-use Rattle.inst_table.specs.declared.creator.Created.TheVariants.{New, Old, Full}
 use Rattle.inst_table.specs.declared.view.View.{View}
 use Rattle.inst_table.proofs.Chains.{OnChain, next_low, on_next}
 use Rattle.inst_table.proofs.Lists.{at_push, length-push, AreDistinct-push}

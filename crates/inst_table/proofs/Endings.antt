@@ -1,5 +1,5 @@
 -- What is read when a table is closed.
-use Rattle.std.proofs.Common.{◌≡◌, ℕ, ◌+◌, ◌-◌, ◌<◌, ◌≤◌, ◌≢◌, List, [], ◌∷◌, ◌++◌, length, All, Contains, Option, Some, None, Result, Ok, Err, IfOk, Vec, Global, get_or, set, sym, refl, ap, ◌∙◌, subst, arith, append_assoc, below_more}
+use Rattle.std.proofs.Common.{◌≡◌, ℕ, ◌+◌, ◌-◌, ◌<◌, ◌≤◌, ◌≢◌, List, [], ◌∷◌, ◌++◌, length, All, Option, Some, None, Vec, Global, get_or, set, sym, refl, ap, ◌∙◌, subst, arith, append_assoc, below_more}
 use mathlib.Core.Logic.{dite}
 use native.Mathlib.Decide.{ℕ_discrete}
 use Rattle.std.proofs.lemmas.List.{ext_get_or}
@@ -12,11 +12,9 @@ use Rattle.inst_table.specs.Views.{joint_view, row_note, unit_note, words_of_uni
 use Rattle.inst_table.specs.Units.{IsRecord, heap_of, address_of}
 use Rattle.inst_table.specs.Passes.{KnowsRow, KnowsRightKeys, KnowsAddress, KnowsAtLeast, KnowsRecord, FitsKnown}
 use Rattle.inst_table.specs.AddressLoads.{LoadsAddress}
-use Rattle.inst_table.specs.Lawful.{AreDistinct}
 use Rattle.inst_table.specs.Plays.{IsOfRows, AreSound, AreSoundUnits}
-use Rattle.inst_table.specs.Closing.{AgreesWith, IsRecordOf, IsUnitOf, AreUnitsOf, IsReadRecord, IsReadUnit, AreReadUnits, BeginsWith}
+use Rattle.inst_table.specs.Closing.{AgreesWith, IsUnitOf, AreUnitsOf, IsReadUnit, AreReadUnits, BeginsWith}
 use Rattle.inst_table.specs.declared.setup.Numbers.{Numbers}
-use Rattle.inst_table.specs.declared.closed.Closed.{Closed}
 use Rattle.inst_table.specs.declared.view.View.{View}
 use Rattle.inst_table.specs.declared.view.Unit.{Unit}
 use Rattle.inst_table.specs.declared.view.KnownWord.TheVariants.{KeyWord, AddressWord, HeapWord}

@@ -62,12 +62,13 @@ pub record AreReadUnits (fits : Subject → List ℕ → Type 0) (z : Numbers) (
 
 -- The loads of addresses that were made before come first.
 abbrev pub BeginsWith : List (ℕ × ℕ) → List (ℕ × ℕ) → Type 0
-BeginsWith mine before = (more : List (ℕ × ℕ)) × (mine ≡ before ++ more)
+BeginsWith loads before = (more : List (ℕ × ℕ)) × (loads ≡ before ++ more)
 
 -- What the pass knows is so, by the creator's and the publisher's records.
 abbrev pub IsSettled : Creator → Publisher → Pass → Type 0
 IsSettled creator publisher pass = AgreesWith (view_of pass) (rows_of creator) (units_of publisher)
 
+-- The pass has made its loads of addresses behind those of before.
 abbrev pub LoadsOn : Pass → Pass → Type 0
 LoadsOn before after = BeginsWith (view_of after).address_loads (view_of before).address_loads
 

@@ -1,12 +1,12 @@
 -- What each step tells: of the step, the seat before, the number found (at a store, the number stored) and the seat after.
-use Rattle.std.specs.Prelude.{◌≡◌, ◌≢◌, ℕ, ◌+◌, ◌^◌, ◌<◌, ◌≤◌, List, [], length, All, Contains, Option, Some, None, ◌-◌, slice_index}
+use Rattle.std.specs.Prelude.{◌≡◌, ◌≢◌, ℕ, ◌+◌, ◌^◌, ◌<◌, ◌≤◌, List, [], length, All, Contains, Option, Some, None, slice_index}
 use Rattle.atomic_table.specs.Table.{Me, Step}
 use Rattle.inst_table.specs.Bucket.{key_words, buckets}
 use Rattle.inst_table.specs.Layout.{head_place, key_place, next_place, address_place, heap_place}
 use Rattle.inst_table.specs.Chain.{key_word, bucket_at, newest}
 use Rattle.inst_table.specs.Views.{with_seen, with_walk, with_known, with_key_word, with_next, with_head, with_count, with_address_load, with_record_word, with_heap_word, with_address}
 use Rattle.inst_table.specs.Subject.{Subject, all_subjects}
-use Rattle.inst_table.specs.Units.{IsRecord, heap_of, address_of, total}
+use Rattle.inst_table.specs.Units.{heap_of, address_of, total}
 use Rattle.inst_table.specs.declared.setup.Numbers.{Numbers}
 use Rattle.inst_table.specs.declared.view.Units.{Units}
 use Rattle.inst_table.specs.Lawful.{AreDistinct, IsOneWay}

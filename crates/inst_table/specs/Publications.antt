@@ -2,8 +2,9 @@
 use Rattle.std.specs.Prelude.{◌≡◌, ◌≢◌, ℕ, ◌+◌, ◌<◌, ◌≤◌, List, [], ◌∷◌, ◌++◌, length, ⊤}
 use Rattle.inst_table.specs.Subject.{all_subjects}
 use Rattle.inst_table.specs.Units.{heap_of, address_of, total}
-use Rattle.inst_table.specs.Names.{id_of, numbers_of, asked_of, fits_of, longest_of, heap_room_of, home_of, view_of, units_of}
-use Rattle.inst_table.specs.Passes.{KnowsAddress, KnowsAtLeast, MayPublishRecord}
+use Rattle.inst_table.specs.Names.{id_of, numbers_of, asked_of, longest_of, heap_room_of, home_of, view_of, units_of}
+use Rattle.inst_table.specs.Tables.{MayBeRecord}
+use Rattle.inst_table.specs.Passes.{KnowsAddress, KnowsAtLeast}
 use Rattle.inst_table.specs.declared.setup.Fit.{Ghosts}
 use Rattle.inst_table.specs.declared.table.Table.{Table}
 use Rattle.inst_table.specs.declared.pass.Pass.{Pass}
@@ -69,4 +70,4 @@ module _ {F : Type 0} {G : Ghosts F} where
 
   -- The record fits the unit, of which the pass knows the row, if it is no library's.
   abbrev pub MayBePublished : Table F G → Pass → ℕ → List ℕ → Type 0
-  MayBePublished table by unit words = MayPublishRecord (fits_of table) (numbers_of table) (view_of by) unit words
+  MayBePublished table by unit words = MayBeRecord table (view_of by) unit words

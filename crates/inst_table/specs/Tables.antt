@@ -35,7 +35,7 @@ module _ {F : Type 0} {G : Ghosts F} where
   abbrev pub KnowsSoundUnits : Table F G → View → Type 0
   KnowsSoundUnits table v = AreSoundUnits (asked_of table) (fits_of table) (longest_of table) (numbers_of table) v
 
-  -- The record may be published as the unit's.
+  -- The record may be published as the unit's, by what is known.
   abbrev pub MayBeRecord : Table F G → View → ℕ → List ℕ → Type 0
   MayBeRecord table v unit words = MayPublishRecord (fits_of table) (numbers_of table) v unit words
 

@@ -12,10 +12,12 @@ use crate::table::Table;
 use std::alloc::{AllocError, Global};
 use std::marker::Brand;
 
-/// What a table held: the keys of its rows, in their order, and by row the record of its unit, if it has one.
+/// What a table held.
 #[derive(Drop)]
 pub struct Closed {
+    /// The keys of the rows, in their order.
     pub rows: Vec<[u64; KEY_WORDS]>,
+    /// By row, the record of its unit, if that is built.
     pub units: Vec<Option<Vec<u32>>>,
 }
 

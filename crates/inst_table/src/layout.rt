@@ -9,10 +9,10 @@ ghost use Rattle.inst_table.specs.Layout.{head_place, key_place, next_place, row
 use crate::setup::Numbers;
 use crate::{BUCKETS, KEY_WORDS};
 
-pub const COUNT: usize = 0;
+pub(crate) const COUNT: usize = 0;
 
 // The exclusive or of all bytes is that of the bytes of the words' exclusive or.
-pub fn bucket_of(key: &[u64; KEY_WORDS]) -> usize
+pub(crate) fn bucket_of(key: &[u64; KEY_WORDS]) -> usize
     ensures value { result ≡ bucket_of key.now }
     ensures small { result < buckets }
 {
@@ -39,35 +39,35 @@ fn fold_bytes(word: u64) -> u8
     all
 }
 
-pub fn head_place(bucket: usize) -> usize
+pub(crate) fn head_place(bucket: usize) -> usize
     requires { bucket < buckets }
     ensures { result ≡ head_place bucket }
 {
     1 + bucket
 }
 
-pub fn row_place(row: usize) -> usize
+pub(crate) fn row_place(row: usize) -> usize
     requires { row ≤ 2 ^ 32 }
     ensures { result ≡ row_place row }
 {
     1 + BUCKETS + row * (KEY_WORDS + 1)
 }
 
-pub fn key_place(row: usize, at: usize) -> usize
+pub(crate) fn key_place(row: usize, at: usize) -> usize
     requires { (row ≤ 2 ^ 32) × (at < key_words) }
     ensures { result ≡ key_place row at }
 {
     row_place(row) + at
 }
 
-pub fn next_place(row: usize) -> usize
+pub(crate) fn next_place(row: usize) -> usize
     requires { row ≤ 2 ^ 32 }
     ensures { result ≡ next_place row }
 {
     row_place(row) + KEY_WORDS
 }
 
-pub fn width(numbers: &Numbers) -> usize
+pub(crate) fn width(numbers: &Numbers) -> usize
     requires { AreSmall numbers.now }
     ensures { result ≡ width numbers.now }
 {
@@ -76,7 +76,7 @@ pub fn width(numbers: &Numbers) -> usize
 }
 
 // The place of a unit's address word, if there is such a unit, and else some place.
-pub fn address_place(numbers: &Numbers, unit: u32) -> usize
+pub(crate) fn address_place(numbers: &Numbers, unit: u32) -> usize
     requires { AreSmall numbers.now }
     ensures inside { result < width numbers.now }
     ensures value { IsAddressPlace numbers.now unit result }
@@ -89,7 +89,7 @@ pub fn address_place(numbers: &Numbers, unit: u32) -> usize
 }
 
 // The place of a heap word, if there is such a word, and else some place.
-pub fn heap_place(numbers: &Numbers, at: u64) -> usize
+pub(crate) fn heap_place(numbers: &Numbers, at: u64) -> usize
     requires { AreSmall numbers.now }
     ensures inside { result < width numbers.now }
     ensures value { at < numbers.now.heap → result ≡ heap_place numbers.now at }
@@ -103,7 +103,7 @@ pub fn heap_place(numbers: &Numbers, at: u64) -> usize
 }
 
 // The place of a word of the record at an address word.
-pub fn record_place(numbers: &Numbers, word: u64, at: u64) -> usize
+pub(crate) fn record_place(numbers: &Numbers, word: u64, at: u64) -> usize
     requires { AreSmall numbers.now }
     ensures inside { result < width numbers.now }
     ensures value { IsRecordPlace numbers.now word at result }

@@ -22,9 +22,8 @@ pub use creator::{Created, Creator};
 pub use limits::KEY_WORDS;
 pub use pass::{Address, Find, Pass};
 pub use publisher::{Published, Publisher};
-pub use setup::{Fit, Numbers, Setup};
+pub use setup::Fit;
 pub use table::Table;
-pub use view::{KnownWord, Rows, Unit, Units, View, Walk};
 
-/// The number of buckets.
-pub const BUCKETS: usize = 256;
+// The number of buckets.
+const BUCKETS: usize = 256;

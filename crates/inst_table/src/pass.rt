@@ -29,7 +29,7 @@ pub enum Find {
 impl Pass {
     ghost use Rattle.inst_table.specs.Names.{home_of, view_of, id_of, numbers_of};
     ghost use Rattle.inst_table.specs.Find.{IfHit, IfMiss, IsHit, IsMiss};
-    ghost use Rattle.inst_table.specs.AddressLoads.{word_of, IsKnownAddress, IsAddressOf, LoadsAddress, LoadsNoAddress};
+    ghost use Rattle.inst_table.specs.AddressLoads.{word_in, IsKnownAddress, IsAddressOf, GivesKnownAddress, LoadsAddress, LoadsNoAddress};
     ghost use Rattle.inst_table.specs.Tables.{IsRecordAt, FitsAt};
 
     pub(crate) fn new(seat: Seat) -> Pass
@@ -92,7 +92,8 @@ impl Pass {
         requires table { home_of self.old ≡ id_of table.now }
         requires known { IsKnownUnit (numbers_of table.now) (view_of self.old) unit }
         ensures table { home_of self.new ≡ home_of self.old }
-        ensures loads { LoadsAddress (view_of self.old) (view_of self.new) unit (word_of result) }
+        ensures loads { LoadsAddress (view_of self.old) (view_of self.new) unit (word_in result) }
+        ensures same { GivesKnownAddress (view_of self.old) unit result }
         ensures address { IfSome result (IsAddressOf unit (view_of self.new)) }
         ensures knows { KnowsAtLeast (view_of self.old) (view_of self.new) }
     {

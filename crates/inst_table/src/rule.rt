@@ -6,9 +6,9 @@ use crate::view::View;
 use atomic_table::{Join, Play, Split, TableRule};
 use std::marker::{Brand, PhantomData};
 
-pub type Seat = atomic_table::Seat<u8, View>;
+pub(crate) type Seat = atomic_table::Seat<u8, View>;
 
-pub struct Law<F> {
+pub(crate) struct Law<F> {
     marker: PhantomData<F>,
 }
 
@@ -23,7 +23,7 @@ impl<F: Fit> TableRule<u8, View, Setup<F>> for Law<F> {
 
 // What a step is about, which the step can't see: the room of the table, the key that is looked for and the number of
 // rows among which it is.
-pub trait LookUpOperands {
+pub(crate) trait LookUpOperands {
     ghost room: { ℕ };
 
     ghost key: { List ℕ };
@@ -39,7 +39,7 @@ impl LookUpOperands for Brand {
     ghost below = { 0 };
 }
 
-pub struct LoadsCount<K> {
+pub(crate) struct LoadsCount<K> {
     marker: PhantomData<K>,
 }
 
@@ -49,7 +49,7 @@ impl<K: LookUpOperands> Play<u8, View> for LoadsCount<K> {
     ghost then = { CountLoad K.room };
 }
 
-pub struct LoadsHead<K> {
+pub(crate) struct LoadsHead<K> {
     marker: PhantomData<K>,
 }
 
@@ -59,7 +59,7 @@ impl<K: LookUpOperands> Play<u8, View> for LoadsHead<K> {
     ghost then = { HeadLoad K.room K.key K.below };
 }
 
-pub struct LoadsNext<K> {
+pub(crate) struct LoadsNext<K> {
     marker: PhantomData<K>,
 }
 
@@ -69,7 +69,7 @@ impl<K: LookUpOperands> Play<u8, View> for LoadsNext<K> {
     ghost then = { NextLoad K.room K.key K.below };
 }
 
-pub struct LoadsKeyWord;
+pub(crate) struct LoadsKeyWord;
 
 impl Play<u8, View> for LoadsKeyWord {
     ghost use Rattle.inst_table.specs.Plays.{KeyWordLoad};
@@ -78,7 +78,7 @@ impl Play<u8, View> for LoadsKeyWord {
 }
 
 // A new pass knows what the seat knows.
-pub struct SplitsPass;
+pub(crate) struct SplitsPass;
 
 impl Split<View> for SplitsPass {
     ghost use Rattle.inst_table.specs.Views.{split_view};
@@ -88,7 +88,7 @@ impl Split<View> for SplitsPass {
     ghost right = { split_view };
 }
 
-pub struct NotesRows;
+pub(crate) struct NotesRows;
 
 impl Split<View> for NotesRows {
     ghost use Rattle.inst_table.specs.Views.{row_note};
@@ -98,7 +98,7 @@ impl Split<View> for NotesRows {
     ghost right = { row_note };
 }
 
-pub struct NotesUnits;
+pub(crate) struct NotesUnits;
 
 impl Split<View> for NotesUnits {
     ghost use Rattle.inst_table.specs.Views.{unit_note};
@@ -109,7 +109,7 @@ impl Split<View> for NotesUnits {
 }
 
 // The right to create goes to a seat of its own.
-pub struct SplitsCreator;
+pub(crate) struct SplitsCreator;
 
 impl Split<View> for SplitsCreator {
     ghost use Rattle.inst_table.specs.Views.{without_creation, creation_alone};
@@ -119,7 +119,7 @@ impl Split<View> for SplitsCreator {
     ghost right = { creation_alone };
 }
 
-pub struct JoinsPass;
+pub(crate) struct JoinsPass;
 
 impl Join<View> for JoinsPass {
     ghost use Rattle.inst_table.specs.Views.{joint_view, blank};
@@ -130,7 +130,7 @@ impl Join<View> for JoinsPass {
 }
 
 // The keys that may be asked, and the room of the table.
-pub trait RowOperands {
+pub(crate) trait RowOperands {
     ghost asked: { List (List ℕ) };
 
     ghost room: { ℕ };
@@ -142,7 +142,7 @@ impl RowOperands for Brand {
     ghost room = { 0 };
 }
 
-pub struct ReloadsOwnRow<K> {
+pub(crate) struct ReloadsOwnRow<K> {
     marker: PhantomData<K>,
 }
 
@@ -152,7 +152,7 @@ impl<K: RowOperands> Play<u8, View> for ReloadsOwnRow<K> {
     ghost then = { RowReload K.asked K.room };
 }
 
-pub struct StoresKeyWord;
+pub(crate) struct StoresKeyWord;
 
 impl Play<u8, View> for StoresKeyWord {
     ghost use Rattle.inst_table.specs.Plays.{KeyWordStore};
@@ -160,7 +160,7 @@ impl Play<u8, View> for StoresKeyWord {
     ghost then = { KeyWordStore };
 }
 
-pub struct StoresNext;
+pub(crate) struct StoresNext;
 
 impl Play<u8, View> for StoresNext {
     ghost use Rattle.inst_table.specs.Plays.{NextStore};
@@ -168,7 +168,7 @@ impl Play<u8, View> for StoresNext {
     ghost then = { NextStore };
 }
 
-pub struct StoresHead;
+pub(crate) struct StoresHead;
 
 impl Play<u8, View> for StoresHead {
     ghost use Rattle.inst_table.specs.Plays.{HeadStore};
@@ -176,7 +176,7 @@ impl Play<u8, View> for StoresHead {
     ghost then = { HeadStore };
 }
 
-pub struct StoresCount;
+pub(crate) struct StoresCount;
 
 impl Play<u8, View> for StoresCount {
     ghost use Rattle.inst_table.specs.Plays.{CountStore};
@@ -185,7 +185,7 @@ impl Play<u8, View> for StoresCount {
 }
 
 // What the value of `Fit` says, the numbers of the table, a unit, its address word and a place in its record.
-pub trait UnitOperands<F> {
+pub(crate) trait UnitOperands<F> {
     ghost use Rattle.inst_table.specs.declared.setup.Numbers.{Numbers};
 
     ghost fit: { Option F };
@@ -213,7 +213,7 @@ impl<F> UnitOperands<F> for Brand {
     ghost at = { 0 };
 }
 
-pub struct LoadsAddressWord<F, K> {
+pub(crate) struct LoadsAddressWord<F, K> {
     marker: PhantomData<(F, K)>,
 }
 
@@ -223,7 +223,7 @@ impl<F, K: UnitOperands<F>> Play<u8, View> for LoadsAddressWord<F, K> {
     ghost then = { AddressLoad K.unit };
 }
 
-pub struct LoadsHeapWord<F, K> {
+pub(crate) struct LoadsHeapWord<F, K> {
     marker: PhantomData<(F, K)>,
 }
 
@@ -233,7 +233,7 @@ impl<F: Fit, K: UnitOperands<F>> Play<u8, View> for LoadsHeapWord<F, K> {
     ghost then = { HeapLoad (fits_by F.fits K.fit) K.numbers K.unit K.word K.at };
 }
 
-pub struct ReloadsOwnUnit<F, K> {
+pub(crate) struct ReloadsOwnUnit<F, K> {
     marker: PhantomData<(F, K)>,
 }
 
@@ -243,7 +243,7 @@ impl<F: Fit, K: UnitOperands<F>> Play<u8, View> for ReloadsOwnUnit<F, K> {
     ghost then = { UnitReload (asked_by F.asked K.fit) (fits_by F.fits K.fit) (longest_by F.longest K.fit) K.numbers };
 }
 
-pub struct StoresHeapWord;
+pub(crate) struct StoresHeapWord;
 
 impl Play<u8, View> for StoresHeapWord {
     ghost use Rattle.inst_table.specs.Plays.{HeapStore};
@@ -251,7 +251,7 @@ impl Play<u8, View> for StoresHeapWord {
     ghost then = { HeapStore };
 }
 
-pub struct StoresAddress<F, K> {
+pub(crate) struct StoresAddress<F, K> {
     marker: PhantomData<(F, K)>,
 }
 

@@ -23,16 +23,17 @@ pub trait Fit: Send + Sync + Drop {
     ghost within: { (fit : Self) (unit : Subject) (words : List ℕ) → fits fit unit words → length words ≤ longest fit unit };
 }
 
-/// The numbers of libraries, of rows and of heap words.
+// The numbers of libraries, of rows and of heap words.
 #[derive(Clone, Copy, Drop)]
-pub struct Numbers {
+pub(crate) struct Numbers {
     pub libraries: u32,
     pub rows: u32,
     pub heap: u64,
 }
 
+// What the rule knows of a table: its value, and its numbers, of which the libraries are the value's.
 #[derive(Drop)]
-pub struct Setup<F: Fit> {
+pub(crate) struct Setup<F: Fit> {
     pub fit: F,
     pub numbers: Numbers,
     ghost libraries: { numbers.libraries ≡ F.library_count fit },

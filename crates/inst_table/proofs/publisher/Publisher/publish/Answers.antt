@@ -8,6 +8,9 @@ use Rattle.inst_table.specs.declared.view.Units.{Units}
 use Rattle.inst_table.proofs.Publishing.{taken, found_word, may_still, note_of_same, note_of_accepted, accepts}
 use Rattle.inst_table.proofs.publisher.Publisher.publish.Goals as goal
 
+pub returns-then-word-ne0-clause-accepted : goal.returns-then-word-ne0-clause-accepted
+returns-then-word-ne0-clause-accepted g c = tt
+
 pub returns-then-word-ne0-clause-already : goal.returns-then-word-ne0-clause-already
 returns-then-word-ne0-clause-already g c =
     let t = taken c.args.self.now.seat.me c.take_in.new.seat.me c.args.by.seat.me.0 c.take_in.ensures.view in let own = c.own_address-word.ensures in
