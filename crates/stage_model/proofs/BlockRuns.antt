@@ -118,6 +118,6 @@ block_leads program front last behind place state at straight is few =
     elim (front_runs program front (last ∷ []) (last ∷ behind) place state at straight) [
       | stuck_in none stuck ↦ subst (Leads program (AfterLast last) place (place + length front + 1) state) (sym none) stuck
       | passes after comes edges runs ↦ subst (Leads program (AfterLast last) place (place + length front + 1) state) (sym runs)
-        (leads_later program (AfterLast last) place (place + length front) (place + length front + 1) state after _ (omega arith) (omega (arith, edges)) comes
-        (last_is program last (place + length front) after at_last.0 is (subst (λ n. n < BACK_EDGES) (sym edges) few)))
+          (leads_later program (AfterLast last) place (place + length front) (place + length front + 1) state after _ (omega arith) (omega (arith, edges)) comes
+          (last_is program last (place + length front) after at_last.0 is (subst (λ n. n < BACK_EDGES) (sym edges) few)))
     ]

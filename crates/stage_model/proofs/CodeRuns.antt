@@ -1,5 +1,5 @@
 -- What code does is what the machine's steps lead to: by the derivation that the code is of.
-use Rattle.std.proofs.Common.{◌≡◌, ◌≢◌, ℕ, zero, suc, ◌+◌, ◌-◌, ◌<◌, ◌≤◌, ◌==◌, ◌||◌, Bool, true, false, not, ◌&&◌, if◌then◌else◌, List, [], ◌∷◌, ◌++◌, length, drop, append_assoc, slice_index,  refl, ap, sym, ◌∙◌, subst, arith, Option, None, Some}
+use Rattle.std.proofs.Common.{◌≡◌, ◌≢◌, ℕ, zero, suc, ◌+◌, ◌-◌, ◌<◌, ◌≤◌, ◌==◌, ◌||◌, Bool, true, false, not, ◌&&◌, if◌then◌else◌, List, [], ◌∷◌, ◌++◌, length, drop, append_assoc, slice_index, refl, ap, sym, ◌∙◌, subst, arith, Option, None, Some}
 use Rattle.std.specs.Prelude.{slice_get}
 use Rattle.spirv_model.specs.declared.op.TheConstants.{LABEL}
 use Rattle.std.proofs.lemmas.List.{length-append}
@@ -66,8 +66,14 @@ stands_as : (insts : List Inst) (wanted : Option ℕ) (label place : ℕ) (behin
 stands_as insts wanted label place behind is begins due =
     let s = stands_at insts (only wanted) place due in
     at_stands insts (only (Some label)) place
-    (record { inst = s.inst; more = s.more; front = s.front; label = s.label; new = s.new;
-    among = ap (λ (b : Bool). b || false) (flip label (slice_index s.inst.words 0) (second_true (s.inst.op == LABEL) _ (ap (begins_with label) (sym s.front ∙ is) ∙ begins))) })
+    (record {
+      inst = s.inst;
+      more = s.more;
+      front = s.front;
+      label = s.label;
+      new = s.new;
+      among = ap (λ (b : Bool). b || false) (flip label (slice_index s.inst.words 0) (second_true (s.inst.op == LABEL) _ (ap (begins_with label) (sym s.front ∙ is) ∙ begins)));
+    })
   where
     second_true : (a b : Bool) → (a && b) ≡ true → b ≡ true
     second_true true b is = is
@@ -141,7 +147,7 @@ parts_of_loop insts program same places scope wanted from head b inner first sec
       high = omega (arith, r.forward);
       place = places head.header from (due_as insts head.header b.label from b.ends.1 (own_label insts scope wanted from (way.Loops head) b here));
       on_header = λ state few. leads_within program (AfterLast b.last) (λ l. l ≡ head.test) from head.after head.after state _ (omega arith) (λ label among. one_name label head.test (targets b.last) b.ends.0 among)
-        (leads_block insts program same scope from (way.Loops head) b state few);
+          (leads_block insts program same scope from (way.Loops head) b state few);
       due_test = due_of condition;
       on_condition = λ state few. leads_within program _ (λ l. l == head.merge ≡ false → l ≡ inner) head.after first first state _ (omega arith) (condition_exit scope head.merge inner) (on_condition state few);
       due_inner = due_of body;

@@ -96,11 +96,11 @@ one_less edges count few =
 fewer : (program : Program) (m next : Machine) → m.place < length program.insts → Advances m.place m.state.back_edges next → steps_left program next < steps_left program m
 fewer program m next here (further forward same) =
     let e : (BACK_EDGES - next.state.back_edges) * length program.insts ≡ (BACK_EDGES - m.state.back_edges) * length program.insts
-            = ap (λ (n : ℕ). (BACK_EDGES - n) * length program.insts) same in
+    = ap (λ (n : ℕ). (BACK_EDGES - n) * length program.insts) same in
     omega (arith, e)
 fewer program m next here (back same few) =
     let e : (BACK_EDGES - next.state.back_edges) * length program.insts ≡ (BACK_EDGES - (m.state.back_edges + 1)) * length program.insts
-            = ap (λ (n : ℕ). (BACK_EDGES - n) * length program.insts) same in
+    = ap (λ (n : ℕ). (BACK_EDGES - n) * length program.insts) same in
     let l = one_less m.state.back_edges (length program.insts) few in
     omega (arith, e, l)
 

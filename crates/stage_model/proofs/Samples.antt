@@ -1,5 +1,5 @@
 -- Outcomes of the sample modules, by computing.
-use Rattle.std.proofs.Common.{◌≡◌, ℕ, true, false, List, [], ◌∷◌, replicate, refl}
+use Rattle.std.proofs.Common.{◌≡◌, ℕ, true, false, List, [], ◌∷◌, ◌++◌, replicate, refl}
 use Rattle.std.specs.Prelude.{None, Some, Option}
 use Rattle.spirv_model.specs.declared.module.Inst.{Inst}
 use Rattle.state_model.specs.declared.parts.Entry.{Entry}
@@ -359,3 +359,104 @@ f9-0 = refl
 pub f10-0 : stage f10 (given []) ≡ done_with 10 0 13
 unfolding result entry_of first_label_place scalar_result word_from_word arithmetic bitwise comparison truth_from_truth truth_from_truths known_by known_after known_of type_of decoration_of offset_of program_of layouts_by held_layout block_offsets constant_of defined_by first_memory operation class_of read_ids result_of effect_of read_values done step start_at position_left slots_left stage
 f10-0 = refl
+
+-- ---- outside of a variable, undefined values, quotients by zero, a back side, a discarded invocation
+
+-- a back side
+abbrev back_side : Given
+back_side = record (given []) { inputs = record no_inputs { front = false } }
+
+pub f10-1 : stage f10 back_side ≡ done_with 20 0 13
+unfolding result entry_of first_label_place scalar_result word_from_word arithmetic bitwise comparison truth_from_truth truth_from_truths known_by known_after known_of type_of decoration_of offset_of program_of layouts_by held_layout block_offsets constant_of defined_by first_memory operation class_of read_ids result_of effect_of read_values done step start_at position_left slots_left stage
+f10-1 = refl
+
+-- a fragment module with these declarations and this body, whose colour is the variable 5 of four words, and the vector 15 is (11, 12, 13, 14)
+abbrev of_four_words : (declarations body : List Inst) → List Inst
+of_four_words declarations body =
+    (i 17 (1 ∷ [])
+    ∷ i 14 (0 ∷ 1 ∷ [])
+    ∷ i 15 (4 ∷ 7 ∷ 1852399981 ∷ 0 ∷ 5 ∷ [])
+    ∷ i 16 (7 ∷ 7 ∷ [])
+    ∷ i 71 (5 ∷ 30 ∷ 0 ∷ [])
+    ∷ i 19 (1 ∷ [])
+    ∷ i 33 (2 ∷ 1 ∷ [])
+    ∷ i 21 (3 ∷ 32 ∷ 0 ∷ [])
+    ∷ i 23 (50 ∷ 3 ∷ 4 ∷ [])
+    ∷ i 32 (4 ∷ 3 ∷ 50 ∷ [])
+    ∷ i 59 (4 ∷ 5 ∷ 3 ∷ [])
+    ∷ i 43 (3 ∷ 11 ∷ 11 ∷ [])
+    ∷ i 43 (3 ∷ 12 ∷ 12 ∷ [])
+    ∷ i 43 (3 ∷ 13 ∷ 13 ∷ [])
+    ∷ i 43 (3 ∷ 14 ∷ 14 ∷ [])
+    ∷ i 44 (50 ∷ 15 ∷ 11 ∷ 12 ∷ 13 ∷ 14 ∷ [])
+    ∷ [])
+    ++ declarations ++ i 54 (1 ∷ 7 ∷ 0 ∷ 2 ∷ []) ∷ i 248 (8 ∷ []) ∷ body ++ i 56 [] ∷ []
+
+abbrev four_words : List ℕ → ℕ → Option Outcome
+four_words words work = Some (record { kind = Done; position = replicate 4 0; slots = words ∷ replicate 7 (replicate 4 0); back_edges = 0; work = work })
+
+-- 20 is an array of two vectors, 21 its second one, 22 one behind them, and 24 a component that the second one lacks
+abbrev stores_outside : List Inst
+stores_outside =
+    of_four_words
+    (i 43 (3 ∷ 10 ∷ 2 ∷ [])
+    ∷ i 28 (51 ∷ 50 ∷ 10 ∷ [])
+    ∷ i 32 (52 ∷ 7 ∷ 51 ∷ [])
+    ∷ i 32 (53 ∷ 7 ∷ 50 ∷ [])
+    ∷ i 32 (54 ∷ 7 ∷ 3 ∷ [])
+    ∷ i 43 (3 ∷ 16 ∷ 1 ∷ [])
+    ∷ i 43 (3 ∷ 17 ∷ 9 ∷ [])
+    ∷ [])
+    (i 59 (52 ∷ 20 ∷ 7 ∷ [])
+    ∷ i 65 (53 ∷ 21 ∷ 20 ∷ 16 ∷ [])
+    ∷ i 62 (21 ∷ 15 ∷ [])
+    ∷ i 65 (53 ∷ 22 ∷ 20 ∷ 17 ∷ [])
+    ∷ i 62 (22 ∷ 15 ∷ [])
+    ∷ i 61 (50 ∷ 23 ∷ 22 ∷ [])
+    ∷ i 65 (54 ∷ 24 ∷ 20 ∷ 16 ∷ 17 ∷ [])
+    ∷ i 62 (24 ∷ 17 ∷ [])
+    ∷ i 61 (3 ∷ 25 ∷ 24 ∷ [])
+    ∷ i 61 (50 ∷ 26 ∷ 21 ∷ [])
+    ∷ i 82 (50 ∷ 27 ∷ 25 ∷ 26 ∷ 0 ∷ [])
+    ∷ i 81 (3 ∷ 28 ∷ 23 ∷ 3 ∷ [])
+    ∷ i 82 (50 ∷ 29 ∷ 28 ∷ 27 ∷ 1 ∷ [])
+    ∷ i 62 (5 ∷ 29 ∷ [])
+    ∷ i 253 []
+    ∷ [])
+
+-- both stores outside wrote nothing, and both loads gave zeros
+pub outside_is_zero : stage stores_outside (given []) ≡ four_words (0 ∷ 0 ∷ 13 ∷ 14 ∷ []) 16
+unfolding result entry_of first_label_place scalar_result word_from_word arithmetic bitwise comparison truth_from_truth truth_from_truths known_by known_after known_of type_of decoration_of offset_of program_of layouts_by held_layout block_offsets constant_of defined_by first_memory operation class_of read_ids result_of effect_of read_values done step start_at position_left slots_left stage
+outside_is_zero = refl
+
+-- 19 is an undefined vector, and 20 the components 3, none, 5 and 0 of 15 and 19
+abbrev shuffles : List Inst
+shuffles = of_four_words [] (i 1 (50 ∷ 19 ∷ []) ∷ i 79 (50 ∷ 20 ∷ 15 ∷ 19 ∷ 3 ∷ 0xffff_ffff ∷ 5 ∷ 0 ∷ []) ∷ i 62 (5 ∷ 20 ∷ []) ∷ i 253 [] ∷ [])
+
+pub undefined_is_zero : stage shuffles (given []) ≡ four_words (14 ∷ 0 ∷ 0 ∷ 11 ∷ []) 5
+unfolding result entry_of first_label_place scalar_result word_from_word arithmetic bitwise comparison truth_from_truth truth_from_truths known_by known_after known_of type_of decoration_of offset_of program_of layouts_by held_layout block_offsets constant_of defined_by first_memory operation class_of read_ids result_of effect_of read_values done step start_at position_left slots_left stage
+undefined_is_zero = refl
+
+-- (11, 12, 13, 14) / (0, 1, 12, 13) + (1, 1, 1, 1) << (0, 31, 32, 33)
+abbrev divides_and_shifts : List Inst
+divides_and_shifts =
+    of_four_words
+    (i 43 (3 ∷ 16 ∷ 0 ∷ [])
+    ∷ i 43 (3 ∷ 17 ∷ 1 ∷ [])
+    ∷ i 43 (3 ∷ 18 ∷ 31 ∷ [])
+    ∷ i 43 (3 ∷ 19 ∷ 32 ∷ [])
+    ∷ i 43 (3 ∷ 20 ∷ 33 ∷ [])
+    ∷ i 44 (50 ∷ 21 ∷ 16 ∷ 17 ∷ 12 ∷ 13 ∷ [])
+    ∷ i 44 (50 ∷ 22 ∷ 17 ∷ 17 ∷ 17 ∷ 17 ∷ [])
+    ∷ i 44 (50 ∷ 23 ∷ 16 ∷ 18 ∷ 19 ∷ 20 ∷ [])
+    ∷ [])
+    (i 134 (50 ∷ 24 ∷ 15 ∷ 21 ∷ []) ∷ i 196 (50 ∷ 25 ∷ 22 ∷ 23 ∷ []) ∷ i 128 (50 ∷ 26 ∷ 24 ∷ 25 ∷ []) ∷ i 62 (5 ∷ 26 ∷ []) ∷ i 253 [] ∷ [])
+
+pub by_zero_and_beyond : stage divides_and_shifts (given []) ≡ four_words (1 ∷ 0x8000_000c ∷ 1 ∷ 1 ∷ []) 6
+unfolding result entry_of first_label_place scalar_result word_from_word arithmetic bitwise comparison truth_from_truth truth_from_truths known_by known_after known_of type_of decoration_of offset_of program_of layouts_by held_layout block_offsets constant_of defined_by first_memory operation class_of read_ids result_of effect_of read_values done step start_at position_left slots_left stage
+by_zero_and_beyond = refl
+
+-- what it had stored is not left
+pub killed : stage (of_four_words [] (i 62 (5 ∷ 15 ∷ []) ∷ i 252 [] ∷ [])) (given []) ≡ Some (record { kind = Killed; position = replicate 4 0; slots = replicate 8 (replicate 4 0); back_edges = 0; work = 3 })
+unfolding result entry_of first_label_place scalar_result word_from_word arithmetic bitwise comparison truth_from_truth truth_from_truths known_by known_after known_of type_of decoration_of offset_of program_of layouts_by held_layout block_offsets constant_of defined_by first_memory operation class_of read_ids result_of effect_of read_values done step start_at position_left slots_left stage
+killed = refl

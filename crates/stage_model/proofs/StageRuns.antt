@@ -95,7 +95,7 @@ stage_runs insts d given first =
     let few : state.back_edges < BACK_EDGES = omega (arith, start.1) in
     let leads = sequence_runs insts program (same_insts insts) (label_places insts) d.sequence state few in
     let left : steps_left program (machine (d.before + 1) state) ≤ enough_steps insts =
-            subst (λ (l : List Inst). steps_left program (machine (d.before + 1) state) ≤ (BACK_EDGES + 1) * length l) (same_insts insts) (left_at_most program (d.before + 1) state start.1) in
+    subst (λ (l : List Inst). steps_left program (machine (d.before + 1) state) ≤ (BACK_EDGES + 1) * length l) (same_insts insts) (left_at_most program (d.before + 1) state start.1) in
     ap (option_and_then (λ (first : ℕ). option_map (outcome_of program) (run (enough_steps insts) program (start_at program given first)))) first
     ∙ ap (λ (m : Machine). option_map (outcome_of program) (run (enough_steps insts) program m)) start.0
     ∙ outcome_is program (d.before + 1) d.after (enough_steps insts) state _ leads (enough (enough_steps insts) program (machine (d.before + 1) state) few left)
