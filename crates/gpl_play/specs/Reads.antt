@@ -11,3 +11,7 @@ EndsReading left bytes = IsAtEnd left ⊎ (length bytes ≡ TRACE_LIMIT + 1)
 pub record Reads (before after : Option (List ℕ)) (bytes : List ℕ) : Type 0 where
   pub consumed : Consumes before after bytes
   pub ended : EndsReading after bytes
+
+-- some bytes were read so
+abbrev pub ReadsSome : Option (List ℕ) → Option (List ℕ) → Type 0
+ReadsSome before after = (bytes : List ℕ) × Reads before after bytes

@@ -3,14 +3,13 @@ ghost use Rattle.std.specs.Option.{option_map};
 ghost use Rattle.std.specs.Io.KnownBytes.{IsAtEnd, Keeps};
 ghost use Rattle.basics.specs.Count.{Rose};
 ghost use Rattle.draw_model.specs.Draw.{HasLimitedSides};
-ghost use Rattle.trace_model.specs.Form.{trace_of};
 ghost use Rattle.trace_model.specs.Meaning.{meaning};
 ghost use Rattle.trace_model.specs.Output.{due_text};
 ghost use Rattle.trace_model.specs.declared.trace.TraceFault.{TraceFault};
 ghost use Rattle.trace_model.specs.declared.trace.Cause.TheVariants.{NotYet};
 ghost use Rattle.gpl_play.specs.Modules.{HasFlatModules};
-ghost use Rattle.gpl_play.specs.Reads.{Reads};
-ghost use Rattle.gpl_play.specs.Runs.{IsPlay, WritesDue, WritesDueFront, IsNoTrace};
+ghost use Rattle.gpl_play.specs.Reads.{ReadsSome};
+ghost use Rattle.gpl_play.specs.Runs.{IsPlay, NoFault, WritesDue, WritesDueFront, IsNoTrace, IsRefusedIfNoTrace, IsPlayedIfTrace};
 
 use crate::outcome::Outcome;
 use crate::read::{ReadStop, read_all};
@@ -41,7 +40,8 @@ pub fn run<R: Threads + Wait + Sync, S: Source, K: Sink, G: Gate>(
     ensures report { IsNone result.report }
 
     // All text was written, and nothing else: what the trace means, by its own modules.
-    ensures done { result.status ≡ DONE → WritesDue (S.left source.old) (K.held sink.old) (K.held sink.new) }
+    ensures done { result.status ≡ DONE
+        → WritesDue (S.left source.old) (K.held sink.old) (K.held sink.new) }
     ensures read { result.status ≡ DONE → IsAtEnd (S.left source.new) }
 
     ensures usage { (result.status ≡ USAGE) ↔ (IsPlay (map string_bytes words.now.items) → ⊥) }
@@ -49,27 +49,36 @@ pub fn run<R: Threads + Wait + Sync, S: Source, K: Sink, G: Gate>(
 
     // Bytes that are no trace: exactly at them, where no read failed.
     ensures refused { result.status ≡ REFUSED → IsNoTrace (S.left source.old) }
-    ensures refused_read { result.status ≡ REFUSED → (bytes : List ℕ) × Reads (S.left source.old) (S.left source.new) bytes }
-    ensures refuses { IsPlay (map string_bytes words.now.items) → (Rose (S.faults source.old) (S.faults source.new) → ⊥)
-        → IfSome (S.left source.old) (λ bytes. trace_of bytes ≡ None → (result.status ≡ REFUSED) ⊎ (result.status ≡ NO_MEMORY)) }
+    ensures refused_read { result.status ≡ REFUSED
+        → ReadsSome (S.left source.old) (S.left source.new) }
+    ensures refuses { IsPlay (map string_bytes words.now.items)
+        → NoFault (S.faults source.old) (S.faults source.new)
+        → IfSome (S.left source.old) (IsRefusedIfNoTrace result.status) }
     ensures fault { IsSome result.fault ↔ (result.status ≡ REFUSED) }
     ensures fault_line { IfSome result.fault (λ fault. fault ≡ record { line = 0; cause = NotYet }) }
 
-    ensures read_failed { result.status ≡ READ_FAILED → Rose (S.faults source.old) (S.faults source.new) }
-    ensures reads_counted { result.status ≢ READ_FAILED → S.faults source.new ≡ S.faults source.old }
+    ensures read_failed { result.status ≡ READ_FAILED
+        → Rose (S.faults source.old) (S.faults source.new) }
+    ensures reads_counted { result.status ≢ READ_FAILED
+        → S.faults source.new ≡ S.faults source.old }
 
-    ensures write_failed { result.status ≡ WRITE_FAILED → Rose (K.faults sink.old) (K.faults sink.new) }
-    ensures front { result.status ≡ WRITE_FAILED → WritesDueFront (S.left source.old) (K.held sink.old) (K.held sink.new) }
+    ensures write_failed { result.status ≡ WRITE_FAILED
+        → Rose (K.faults sink.old) (K.faults sink.new) }
+    ensures front { result.status ≡ WRITE_FAILED
+        → WritesDueFront (S.left source.old) (K.held sink.old) (K.held sink.new) }
     ensures front_read { result.status ≡ WRITE_FAILED → IsAtEnd (S.left source.new) }
-    ensures writes_counted { result.status ≢ WRITE_FAILED → K.faults sink.new ≡ K.faults sink.old }
+    ensures writes_counted { result.status ≢ WRITE_FAILED
+        → K.faults sink.new ≡ K.faults sink.old }
 
     // Nothing was written.
-    ensures unwritten { result.status ≢ DONE → result.status ≢ WRITE_FAILED → Keeps (K.held sink.old) (K.held sink.new) }
+    ensures unwritten { result.status ≢ DONE → result.status ≢ WRITE_FAILED
+        → Keeps (K.held sink.old) (K.held sink.new) }
 
     // Nothing else keeps a trace from being played but want of memory.
     ensures complete { IsPlay (map string_bytes words.now.items)
-        → (Rose (S.faults source.old) (S.faults source.new) → ⊥) → (Rose (K.faults sink.old) (K.faults sink.new) → ⊥)
-        → IfSome (S.left source.old) (λ bytes. IsSome (trace_of bytes) → (result.status ≡ DONE) ⊎ (result.status ≡ NO_MEMORY)) }
+        → NoFault (S.faults source.old) (S.faults source.new)
+        → NoFault (K.faults sink.old) (K.faults sink.new)
+        → IfSome (S.left source.old) (IsPlayedIfTrace result.status) }
 {
     if !is_play(words) {
         return ended(USAGE);

@@ -19,9 +19,12 @@ pub enum ReadStop {
 
 /// The bytes of a source, to its end or one byte past the limit.
 pub fn read_all<S: Source>(alloc: Global, source: &mut S) -> Result<Vec<u8>, ReadStop>
-    ensures read { IfOk result (λ bytes. Reads (S.left source.old) (S.left source.new) bytes.items) }
-    ensures failed { result ≡ Err ReadStop.Failed → Rose (S.faults source.old) (S.faults source.new) }
-    ensures unraised { (result ≡ Err ReadStop.Failed → ⊥) → S.faults source.new ≡ S.faults source.old }
+    ensures read { IfOk result
+        (λ bytes. Reads (S.left source.old) (S.left source.new) bytes.items) }
+    ensures failed { result ≡ Err ReadStop.Failed
+        → Rose (S.faults source.old) (S.faults source.new) }
+    ensures unraised { (result ≡ Err ReadStop.Failed → ⊥)
+        → S.faults source.new ≡ S.faults source.old }
 {
     let mut bytes = Vec::new(alloc);
     let mut buffer = [0; CHUNK];
