@@ -1,12 +1,12 @@
 -- The first place at which the grammar can't take an instruction, and why: a walk over the flat list that keeps what is due.
-use Rattle.std.specs.Prelude.{ℕ, zero, suc, ◌+◌, ◌-◌, ◌==◌, if◌then◌else◌, List, [], ◌∷◌, ◌++◌, Option, None, Some}
+use Rattle.std.specs.Prelude.{ℕ, Bool, true, false, zero, suc, ◌+◌, ◌-◌, ◌==◌, if◌then◌else◌, List, [], ◌∷◌, ◌++◌, Option, None, Some}
 use Rattle.spirv_model.specs.declared.module.Inst.{Inst}
 use Rattle.spirv_model.specs.declared.op.TheConstants.{FUNCTION, FUNCTION_END}
 use Rattle.body_model.specs.declared.grammar.Scope.{Scope}
 use Rattle.body_model.specs.declared.grammar.BlockEnd.{BlockEnd}
 use Rattle.body_model.specs.declared.grammar.BlockEnd.TheVariants.{Broken, Ends, GoesOn, Selects, Loops}
 use Rattle.body_model.specs.declared.grammar.TreeFault.{TreeFault}
-use Rattle.body_model.specs.declared.grammar.TreeFault.TheVariants.{BadBlock}
+use Rattle.body_model.specs.declared.grammar.TreeFault.TheVariants.{BadBlock, Memory}
 use Rattle.body_model.specs.Blocks.{is_module_level, block_end, missing}
 use Rattle.body_model.specs.Grammar.{main, later, merged, arm, condition, body, continuing}
 
@@ -76,3 +76,8 @@ walk_module insts (inst ∷ rest) place =
 -- the first fault against the grammar
 unfoldable pub tree_fault : List Inst → Option TreeFault
 tree_fault insts = walk_module insts insts 0
+
+-- want of memory
+abbrev pub is_memory : TreeFault → Bool
+is_memory Memory = true
+is_memory fault = false

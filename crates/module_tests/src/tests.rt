@@ -5,13 +5,13 @@ use crate::bad_modules::{
 };
 use crate::samples::{LOOP_MODULE, NAMES_MODULE, SELECTION_MODULE};
 use spirv_model::{MAGIC, VERSION, Words, WordsFault};
-use valid_model::TypeFault;
 use spv_tree::{Block, End, Node, Run, TreeFault, flatten, tree_of};
 use spv_types::{Meaning, ids_of};
 use spv_words::{read_module, write_module};
 use std::alloc::{AllocError, Global};
 use std::process::Abort;
 use std::test::Fail;
+use valid_model::TypeFault;
 
 /// The words of a module with these instructions, each of at most 100 words after its first.
 fn words_of(alloc: Global, insts: &[(u16, &[u32])], bound: u32) -> Result<Vec<u32>, AllocError> {

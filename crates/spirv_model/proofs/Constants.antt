@@ -1,5 +1,5 @@
 -- Each constant of the format by its name, with its number in SPIR-V's own tables.
-use Rattle.std.proofs.Common.{◌≡◌, List, [], ◌∷◌, refl}
+use Rattle.std.proofs.Common.{◌≡◌, [], ◌∷◌, refl}
 use Rattle.spirv_model.specs.declared.builtin.TheConstants as builtin
 use Rattle.spirv_model.specs.declared.decoration.TheConstants as decoration
 use Rattle.spirv_model.specs.declared.execution_model.TheConstants as execution_model

@@ -1,5 +1,5 @@
 -- The list of instructions of a module's words: cut by the length fields alone, without the skipped opcodes.
-use Rattle.std.specs.Prelude.{◌≡◌, ℕ, zero, suc, ◌+◌, ◌*◌, ◌/◌, ◌%◌, Bool, true, false, not, ◌&&◌, ◌==◌, nat_lt, nat_le, if◌then◌else◌, List, [], ◌∷◌, length, drop, slice_index, Option, None, Some, is_none, Result, Ok, Err}
+use Rattle.std.specs.Prelude.{ℕ, zero, suc, ◌+◌, ◌*◌, ◌/◌, ◌%◌, Bool, true, false, not, ◌&&◌, ◌==◌, nat_lt, nat_le, if◌then◌else◌, List, [], ◌∷◌, length, drop, slice_index, Option, None, Some, is_none, Result, Ok, Err}
 use Rattle.std.specs.List.{filter, flat_map}
 use Rattle.std.specs.Option.{option_map}
 use Rattle.limits.specs.declared.TheConstants.{MODULE_WORDS, MAX_BOUND}
@@ -143,12 +143,7 @@ words_of inst = first_word inst ∷ inst.words
 abbrev pub module_words : List Inst → ℕ → List ℕ
 module_words insts bound = MAGIC ∷ VERSION ∷ 0 ∷ bound ∷ 0 ∷ flat_map words_of insts
 
--- a fault is the one that reading gives; of want of memory nothing is said
-abbrev pub Fails : {T : Type 0} → WordsFault → Result T WordsFault → Type 0
-Fails Memory read = Unit {0}
-Fails fault read = read ≡ Err fault
-
--- a result is what reading gives, unless memory ran out
-abbrev pub Gives : {T : Type 0} → Result T WordsFault → Result T WordsFault → Type 0
-Gives (Ok value) read = read ≡ Ok value
-Gives (Err fault) read = Fails fault read
+-- want of memory
+abbrev pub is_memory : WordsFault → Bool
+is_memory Memory = true
+is_memory fault = false

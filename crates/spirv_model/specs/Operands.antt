@@ -116,10 +116,10 @@ result_place (Some IdResult ∷ more) = Some 0
 result_place (Some IdResultType ∷ Some IdResult ∷ more) = Some 1
 result_place listed = None
 
-abbrev pub result_in : Option Entry → List ℕ → Option ℕ
-result_in (Some (Listed class operands)) words = option_map (λ place. slice_index words place) (result_place (listed_of operands))
-result_in entry words = None
+abbrev pub result_in : Option Entry → Inst → Option ℕ
+result_in (Some (Listed class operands)) inst = option_map (λ place. word_at place inst) (result_place (listed_of operands))
+result_in entry inst = None
 
 -- the id that an instruction gives a meaning
 unfoldable pub result : Inst → Option ℕ
-result inst = result_in (entry_of inst.op) inst.words
+result inst = result_in (entry_of inst.op) inst

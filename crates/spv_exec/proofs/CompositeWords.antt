@@ -1,5 +1,5 @@
 -- The words of a composite, gathered part by part.
-use Rattle.std.proofs.Common.{◌≡◌, ℕ, ◌+◌, ◌<◌, List, [], ◌∷◌, length, drop, refl, ap, sym, ◌∙◌, append_assoc, append-nil, get_or, drop-cons, add-one, Option, None, Some}
+use Rattle.std.proofs.Common.{◌≡◌, ℕ, ◌+◌, ◌<◌, List, [], ◌∷◌, length, drop, refl, ap, sym, ◌∙◌, append_assoc, append-nil, Option, None, Some}
 use Rattle.std.specs.Option.{option_map, option_and_then}
 use Rattle.stage_model.specs.Value.{Value, Word, Composite, Pointer, Parts, NoParts, PartsOf, Values, joined, words_of, words_of_parts}
 use Rattle.stage_model.specs.Machine.{parts_of}
@@ -76,7 +76,3 @@ pub composite_without : (all : Values) (words : Option (List ℕ)) (parts : Opti
 composite_without all words parts id ids h same =
     shown_parts parts ∙ ap (option_map words_view) (sym same)
     ∙ ap (λ (x : Option Parts). option_map words_view (words_after words x)) (no_part (all id) (parts_of all ids) h)
-
--- the list from a place on, by its first element
-pub drop_first : (ids : List ℕ) (i : ℕ) → i < length ids → drop i ids ≡ get_or ids i 0 ∷ drop (i + 1) ids
-drop_first ids i h = rw (add-one, drop-cons ids i 0) refl

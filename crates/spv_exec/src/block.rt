@@ -15,7 +15,7 @@ use std::collections::BTreeMap;
 /// What a run leaves: the first four words of each variable that was stored to, and how many instructions were run.
 #[derive(Debug, Drop)]
 pub struct Ran {
-    pub memory: BTreeMap<u32, [u32; 4]>,
+    pub memory: BTreeMap<u32, [u32; COMPONENTS]>,
     pub work: u64,
 }
 
@@ -58,7 +58,7 @@ pub fn run_block(
 
 fn step(
     values: &BTreeMap<u32, Value>,
-    memory: &mut BTreeMap<u32, [u32; 4]>,
+    memory: &mut BTreeMap<u32, [u32; COMPONENTS]>,
     inst: &Inst,
 ) -> Result<Stepped, AllocError>
     ensures { IfOk result (λ stepped. (m : machine.Machine) → Holds values.now m.values → HoldsWords memory.old m.memory
@@ -75,7 +75,7 @@ fn step(
 
 fn store(
     values: &BTreeMap<u32, Value>,
-    memory: &mut BTreeMap<u32, [u32; 4]>,
+    memory: &mut BTreeMap<u32, [u32; COMPONENTS]>,
     pointer: u32,
     object: u32,
 ) -> Result<Stepped, AllocError>
@@ -93,7 +93,7 @@ fn store(
 }
 
 fn write(
-    memory: &mut BTreeMap<u32, [u32; 4]>,
+    memory: &mut BTreeMap<u32, [u32; COMPONENTS]>,
     variable: u32,
     words: &[u32],
 ) -> Result<(), AllocError>
@@ -105,7 +105,7 @@ fn write(
 }
 
 /// Four words, with others written over them from the first on.
-fn overwritten(mut held: [u32; 4], words: &[u32]) -> [u32; 4]
+fn overwritten(mut held: [u32; COMPONENTS], words: &[u32]) -> [u32; COMPONENTS]
     ensures { (at : ℕ) → at < 4 → slice_index result at ≡ (if nat_lt at (length words.now) then slice_index words.now at else slice_index held at) }
 {
     for at in 0..words.len().min(COMPONENTS) {

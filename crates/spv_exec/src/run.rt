@@ -46,7 +46,10 @@ fn first_label(insts: &[Inst]) -> Option<usize>
 }
 
 /// By location, the first four words of the output variable there.
-fn slots(insts: &[Inst], memory: &BTreeMap<u32, [u32; 4]>) -> [[u32; 4]; 8]
+fn slots(
+    insts: &[Inst],
+    memory: &BTreeMap<u32, [u32; COMPONENTS]>,
+) -> [[u32; COMPONENTS]; LOCATIONS]
     ensures { (all : value.Memory) → HoldsWords memory.now all → result ≡ stage.slots_of insts.now all }
 {
     let mut slots = [[0; COMPONENTS]; LOCATIONS];
@@ -58,7 +61,7 @@ fn slots(insts: &[Inst], memory: &BTreeMap<u32, [u32; 4]>) -> [[u32; 4]; 8]
 }
 
 /// The first four words of a variable; zeros where there is none.
-fn components(memory: &BTreeMap<u32, [u32; 4]>, variable: Option<u32>) -> [u32; 4]
+fn components(memory: &BTreeMap<u32, [u32; COMPONENTS]>, variable: Option<u32>) -> [u32; COMPONENTS]
     ensures { (all : value.Memory) → HoldsWords memory.now all → result ≡ stage.components_of all variable }
 {
     match variable {

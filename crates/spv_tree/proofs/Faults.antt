@@ -9,7 +9,8 @@ use Rattle.body_model.specs.declared.grammar.TreeFault.{TreeFault}
 use Rattle.body_model.specs.declared.grammar.TreeFault.TheVariants.{BadBlock, BadMerge, BadExit, TooDeep, Memory}
 use Rattle.body_model.specs.Blocks.{block_end, missing}
 use Rattle.body_model.specs.Grammar.{Sequence, ends, goes_on, selects, loops, Arm, straight, through, IsDue, later, merged, arm, condition, body, continuing}
-use Rattle.body_model.specs.TreeFaults.{Due, due, due_arm, dues_after, place_after, unless}
+use Rattle.basics.proofs.Answers.{unless_memory}
+use Rattle.body_model.specs.TreeFaults.{is_memory, Due, due, due_arm, dues_after, place_after, unless}
 use Rattle.spv_tree.specs.Views.{IsFault}
 use Rattle.spv_tree.specs.Parts.{walk_at, Fails, IsBlock}
 use Rattle.spv_tree.proofs.LabelMarks.{missing_past}
@@ -17,11 +18,7 @@ use Rattle.spv_tree.proofs.Ends.{Between, Leaves, Sound, sound_block, nothing_sa
 use Rattle.spv_tree.proofs.Walks.{at_due, at_block, through_due, arm_passes, sequence_passes}
 
 pub is_fault : (fault : TreeFault) (found : Option TreeFault) → found ≡ Some fault → IsFault fault found
-is_fault (BadBlock place) found is = is
-is_fault (BadMerge place) found is = is
-is_fault (BadExit place) found is = is
-is_fault (TooDeep place) found is = is
-is_fault Memory found is = tt
+is_fault fault found is = unless_memory (is_memory fault) (found ≡ Some fault) is
 
 pub no_memory : (insts : List Inst) (place : ℕ) (before : List Due → List Due) (fault : TreeFault) → fault ≡ Memory → Fails insts place before fault
 no_memory insts place before fault is = λ dues. subst (λ (f : TreeFault). IsFault f (walk_at insts place (before dues))) (sym is) tt

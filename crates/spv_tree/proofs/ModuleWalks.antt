@@ -14,10 +14,11 @@ use Rattle.body_model.specs.declared.grammar.TreeFault.TheVariants.{BadBlock, Ba
 use Rattle.spirv_model.specs.Operands.{entry_of, class_of}
 use Rattle.body_model.specs.Blocks.{is_module_level}
 use Rattle.body_model.specs.Grammar.{Derives, IsOp, main}
-use Rattle.body_model.specs.TreeFaults.{due, walk, walk_module, closing, tree_fault}
+use Rattle.basics.specs.Answer.{FindsFault}
+use Rattle.body_model.specs.TreeFaults.{is_memory, due, walk, walk_module, closing, tree_fault}
 use Rattle.spv_tree.specs.declared.tree.Body.{Body}
 use Rattle.spv_tree.specs.declared.tree.Run.{Run}
-use Rattle.spv_tree.specs.Views.{IsFault, Finds}
+use Rattle.spv_tree.specs.Views.{IsFault}
 use Rattle.spv_tree.specs.Trees.{IsTreeOf, run_of}
 use Rattle.spv_tree.specs.Parts.{walk_at, Fails, Begins, Closes}
 use Rattle.spv_tree.proofs.Faults.{is_fault}
@@ -138,7 +139,7 @@ no_other (TooDeep place) is = cc
 no_other Memory is = refl
 
 -- where the instructions derive, no fault is found
-pub exactly : (insts : List Inst) (answer : Result Body TreeFault) → Finds answer (tree_fault insts) → Derives insts → IfErr answer (λ fault. fault ≡ Memory)
+pub exactly : (insts : List Inst) (answer : Result Body TreeFault) → FindsFault is_memory (tree_fault insts) answer → Derives insts → IfErr answer (λ fault. fault ≡ Memory)
 exactly insts (Ok body) finds d = tt
 exactly insts (Err fault) finds d = no_other fault (subst (IsFault fault) (no_fault insts d) finds)
 

@@ -1,9 +1,9 @@
 ghost use Rattle.std.specs.Prelude.{◌≡◌, ◌<◌, ◌^◌, length, IfOk, IfErr};
+ghost use Rattle.basics.specs.Answer.{FindsFault};
 ghost use Rattle.body_model.specs.declared.grammar.TreeFault.TheVariants.{Memory};
 ghost use Rattle.body_model.specs.Grammar.{Derives};
-ghost use Rattle.body_model.specs.TreeFaults.{tree_fault};
+ghost use Rattle.body_model.specs.TreeFaults.{tree_fault, is_memory};
 ghost use Rattle.spv_tree.specs.Trees.{IsTreeOf};
-ghost use Rattle.spv_tree.specs.Views.{Finds};
 ghost use Rattle.spv_tree.specs.Parts.{FindsFunction, FindsEnd};
 
 use crate::block::is_module_level;
@@ -20,7 +20,7 @@ use std::alloc::Global;
 pub fn tree_of(alloc: Global, insts: &[Inst]) -> Result<Body, TreeFault>
     requires { length insts.now < 2 ^ 32 }
     ensures derived { IfOk result (λ body. IsTreeOf insts.now body) }
-    ensures fault { Finds result (tree_fault insts.now) }
+    ensures fault { FindsFault is_memory (tree_fault insts.now) result }
     ensures exact { Derives insts.now → IfErr result (λ fault. fault ≡ Memory) }
 {
     let first = function(insts)?;

@@ -3,18 +3,20 @@ use Rattle.std.proofs.Common.{◌≡◌, ℕ, zero, suc, ◌<◌, ◌≤◌, Boo
 use Rattle.std.specs.Prelude.{Option, None, Some}
 use Rattle.std.specs.Option.{option_or}
 use Rattle.std.proofs.lemmas.Bool.{cases_lt}
+use Rattle.basics.specs.Answer.{FaultUnlessMemory}
+use Rattle.basics.proofs.Answers.{unless_memory}
 use Rattle.spirv_model.specs.declared.module.Words.{Words}
 use Rattle.valid_model.specs.declared.meaning.Known.{Known}
 use Rattle.valid_model.specs.declared.meaning.Meaning.TheVariants.{Absent}
 use Rattle.valid_model.specs.declared.type_fault.TypeFault.{TypeFault}
-use Rattle.valid_model.specs.declared.type_fault.TypeFault.TheVariants.{IdTwice, IdOutOfBound, BadType, BadConstant, BadDecoration, Memory}
+use Rattle.valid_model.specs.declared.type_fault.TypeFault.TheVariants.{BadDecoration}
 use Rattle.valid_model.specs.Knowledge.{meaning_in}
 use Rattle.valid_model.specs.Meanings.{meaning}
 use Rattle.valid_model.specs.Decorations.{bad_decoration}
-use Rattle.valid_model.specs.FirstFault.{first_fault, rule_fault, type_fault, type_fault_at}
+use Rattle.valid_model.specs.FirstFault.{first_fault, rule_fault, type_fault, type_fault_at, is_memory}
 use Rattle.spv_types.specs.declared.pass.Found.{Found}
 use Rattle.spv_types.specs.declared.pass.Pass.{Pass}
-use Rattle.spv_types.specs.Answers.{Fails, meaning_or}
+use Rattle.spv_types.specs.Answers.{meaning_or}
 use Rattle.spv_types.specs.FirstBad.{IsFirstBad, FindsFirstBad, bad_else}
 use Rattle.spv_types.specs.Tables.{in_table, IsFirst, FindsFirst, GoesOver}
 
@@ -83,13 +85,8 @@ pub without : (words : Words) (bad : Option ℕ) → FindsFirst words (length wo
 without words (Some place) none bad = sym (bad_below words (length words.insts) place (omega arith) none bad)
 without words None none bad = sym (sound_all words none bad)
 
-pub fails_by : (words : Words) (fault : TypeFault) → type_fault words ≡ Some fault → Fails words fault
-fails_by words (IdTwice id) is = is
-fails_by words (IdOutOfBound place) is = is
-fails_by words (BadType place) is = is
-fails_by words (BadConstant place) is = is
-fails_by words (BadDecoration place) is = is
-fails_by words Memory is = tt
+pub fails_by : (words : Words) (fault : TypeFault) → type_fault words ≡ Some fault → FaultUnlessMemory is_memory (λ (f : TypeFault). type_fault words ≡ Some f) fault
+fails_by words fault is = unless_memory (is_memory fault) (type_fault words ≡ Some fault) is
 
 absent_or : (known : Option Known) → meaning_or Absent known ≡ meaning_in known
 absent_or None = refl

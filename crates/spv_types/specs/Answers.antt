@@ -1,13 +1,13 @@
 -- What the table of a module's ids tells.
-use Rattle.std.specs.Prelude.{◌≡◌, ℕ, Option, None, Some, Result, Ok, Err}
+use Rattle.std.specs.Prelude.{◌≡◌, ℕ, Option, None, Some, Result}
+use Rattle.basics.specs.Answer.{UnlessMemory}
 use Rattle.spirv_model.specs.declared.module.Words.{Words}
 use Rattle.valid_model.specs.declared.meaning.Meaning.{Meaning}
 use Rattle.valid_model.specs.declared.meaning.Known.{Known}
 use Rattle.valid_model.specs.declared.type_fault.TypeFault.{TypeFault}
-use Rattle.valid_model.specs.declared.type_fault.TypeFault.TheVariants.{Memory}
 use Rattle.valid_model.specs.Meanings.{meaning}
 use Rattle.valid_model.specs.DecorationWords.{decoration_of, offset_of}
-use Rattle.valid_model.specs.FirstFault.{type_fault}
+use Rattle.valid_model.specs.FirstFault.{type_fault, is_memory}
 use Rattle.spv_types.specs.declared.ids.Ids.{Ids}
 use Rattle.spv_types.specs.Pairs.{at_pair}
 use Rattle.spv_types.specs.Tables.{in_table}
@@ -34,11 +34,6 @@ pub record AreIdsOf (words : Words) (ids : Ids) : Type 0 where
   pub decorations : (id decoration : ℕ) → decoration_at ids id decoration ≡ decoration_of words.insts id decoration
   pub offsets : (id member : ℕ) → offset_at ids id member ≡ offset_of words.insts id member
 
--- the fault is the first; of want of memory nothing is said
-abbrev pub Fails : Words → TypeFault → Type 0
-Fails words Memory = Unit {0}
-Fails words fault = type_fault words ≡ Some fault
-
-abbrev pub Gives : Words → Result Ids TypeFault → Type 0
-Gives words (Ok ids) = AreIdsOf words ids
-Gives words (Err fault) = Fails words fault
+-- the ids of a module, or its fault
+abbrev pub AnswersIds : Words → Result Ids TypeFault → Type 0
+AnswersIds words answer = UnlessMemory is_memory (AreIdsOf words) (λ fault. type_fault words ≡ Some fault) answer

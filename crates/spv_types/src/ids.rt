@@ -1,7 +1,7 @@
 ghost use Rattle.std.specs.Prelude.{◌≡◌, ◌<◌, ◌^◌, length};
 ghost use Rattle.valid_model.specs.DecorationWords.{both};
 ghost use Rattle.spirv_model.specs.declared.decoration.TheConstants.{SPEC_ID, LOCATION, BUILT_IN, DESCRIPTOR_SET, BINDING, ARRAY_STRIDE};
-ghost use Rattle.spv_types.specs.Answers.{Gives, meaning_at, decoration_at, offset_at};
+ghost use Rattle.spv_types.specs.Answers.{AnswersIds, meaning_at, decoration_at, offset_at};
 
 use crate::decoration_words::{Decorations, decorations_of};
 use crate::definitions::definitions;
@@ -97,7 +97,7 @@ impl Ids {
 /// read.
 pub fn ids_of(alloc: Global, words: &Words) -> Result<Ids, TypeFault>
     requires { length words.now.insts < 2 ^ 32 }
-    ensures { Gives words.now result }
+    ensures { AnswersIds words.now result }
 {
     let insts = words.insts.as_slice();
     let places = definitions(alloc, insts)?;

@@ -2,6 +2,7 @@
 use Rattle.std.proofs.Common.{◌≡◌, ℕ, zero, suc, ◌%◌, Bool, true, false, cond, List, [], ◌∷◌, ◌++◌, length, map, take, drop, replicate, Option, None, Some, is_some, refl, ap, sym, ◌∙◌}
 use Rattle.std.specs.Prelude.{◌==◌}
 use Rattle.std.specs.Option.{option_map}
+use Rattle.basics.proofs.Bools.{chosen}
 use Rattle.spirv_model.specs.declared.table.Operand.{Operand}
 use Rattle.spirv_model.specs.declared.table.Operand.TheVariants.{IdRef, LiteralInteger}
 use Rattle.spirv_model.specs.declared.module.Inst.{Inst}
@@ -25,17 +26,15 @@ no-ids : (words : List ℕ) → ids_among (map (λ _. LiteralInteger) words) wor
 no-ids [] = refl
 no-ids (word ∷ words) = no-ids words
 
-chosen : (b : Bool) (x y : List Operand) → cond b (Some x) None ≡ Some y → x ≡ y
-chosen true x y h = cc
-chosen false x y h = cc
-
 rest-ids : (rest : Rest) (words : List ℕ) (kinds : List Operand) → rest_kinds rest words ≡ Some kinds → ids_among kinds words ≡ cond (are_ids rest) words []
 rest-ids Nothing [] kinds h = no-words kinds
 rest-ids Nothing (word ∷ words) kinds h = cc
 rest-ids IdRefs words kinds h = let e : map (λ _. IdRef) words ≡ kinds = cc in ap (λ ks. ids_among ks words) (sym e) ∙ all-ids words
 rest-ids LiteralIntegers words kinds h = let e : map (λ _. LiteralInteger) words ≡ kinds = cc in ap (λ ks. ids_among ks words) (sym e) ∙ no-ids words
 rest-ids PairsIdRefIdRef words kinds h =
-    ap (λ ks. ids_among ks words) (sym (chosen (length words % 2 == 0) (map (λ _. IdRef) words) kinds h)) ∙ all-ids words
+    let is : Some (map (λ _. IdRef) words) ≡ Some kinds = (chosen (length words % 2 == 0) (Some (map (λ _. IdRef) words)) kinds h).1 in
+    let same : kinds ≡ map (λ _. IdRef) words = cc in
+    ap (λ ks. ids_among ks words) same ∙ all-ids words
 
 one-more : (b : Bool) (word : ℕ) (ids run rest : List ℕ) → ids ≡ cond b run [] ++ rest → cond b (word ∷ ids) ids ≡ cond b (word ∷ run) [] ++ rest
 one-more true word ids run rest h = ap (λ xs. word ∷ xs) h

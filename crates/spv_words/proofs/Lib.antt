@@ -2,6 +2,6 @@ pub mod Classes
 pub mod Entries
 pub mod IdLists
 pub mod Passing
-pub mod TableSearch
+pub mod RowNumbers
 pub mod WordCuts
 pub mod Written

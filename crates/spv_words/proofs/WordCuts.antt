@@ -2,9 +2,11 @@
 use Rattle.std.proofs.Common.{◌≡◌, ℕ, zero, suc, ◌+◌, ◌-◌, true, false, not, cond, ◌/◌, ◌%◌, ◌<◌, ◌≤◌, List, [], ◌∷◌, ◌++◌, length, take, drop, refl, ap, sym, ◌∙◌, append_assoc, length-append, arith}
 use Rattle.std.proofs.lemmas.List.{append-nil}
 use Rattle.std.specs.Prelude.{Option, None, Some, Result, Ok, Err}
+use Rattle.basics.specs.Answer.{IsAnswer}
+use Rattle.basics.proofs.Answers.{unless_memory}
 use Rattle.spirv_model.specs.declared.module.WordsFault.{WordsFault}
-use Rattle.spirv_model.specs.declared.module.WordsFault.TheVariants.{ZeroLength, CutShort, Memory}
-use Rattle.spirv_model.specs.Module.{Cut, rest_of, cut, broken_by, begin, onto, instruction_before, fault_at, first_fault, is_skipped, listed, list_of_cut, Gives}
+use Rattle.spirv_model.specs.declared.module.WordsFault.TheVariants.{ZeroLength, CutShort}
+use Rattle.spirv_model.specs.Module.{Cut, rest_of, cut, broken_by, begin, onto, instruction_before, fault_at, first_fault, is_skipped, listed, list_of_cut, is_memory}
 use Rattle.spirv_model.specs.declared.module.Inst.{Inst}
 use Rattle.spv_words.specs.Pieces.{with_front}
 
@@ -52,9 +54,8 @@ list-empty : (place : ℕ) → list_of_cut place (cut []) ≡ Ok []
 unfolding list_of_cut
 list-empty place = refl
 
-gives-fault : (fault : WordsFault) (read : Result (List Inst) WordsFault) → read ≡ Err fault → Gives (Err fault) read
-gives-fault Memory read h = tt
-gives-fault fault read h = h
+gives-fault : (fault : WordsFault) (read : Result (List Inst) WordsFault) → read ≡ Err fault → IsAnswer {T = List Inst} is_memory read (Err fault)
+gives-fault fault read h = unless_memory (is_memory fault) (read ≡ Err fault) h
 
 -- an instruction that breaks a rule
 list-faulty : (place : ℕ) (inst : Inst) (c : Cut) (fault : WordsFault) → fault_at place inst ≡ Some fault
@@ -110,7 +111,7 @@ cut-stands rest first after own next s =
     ∙ ap (λ ws. record { insts = stood first own ∷ (cut ws).insts; broken = (cut ws).broken }) (sym s.next_is)
 
 pub stops-faulty : (front : List Inst) (place : ℕ) (rest : List ℕ) (whole : Result (List Inst) WordsFault) (first : ℕ) (after own next : List ℕ) (fault : WordsFault)
-    → with_front front (list_of_cut place (cut rest)) ≡ whole → Stands rest first after own next → fault_at place (stood first own) ≡ Some fault → Gives (Err fault) whole
+    → with_front front (list_of_cut place (cut rest)) ≡ whole → Stands rest first after own next → fault_at place (stood first own) ≡ Some fault → IsAnswer {T = List Inst} is_memory whole (Err fault)
 stops-faulty front place rest whole first after own next fault same s h =
     gives-fault fault whole (sym same ∙ ap (λ c. with_front front (list_of_cut place c)) (cut-stands rest first after own next s)
     ∙ ap (with_front front) (list-faulty place (stood first own) (cut next) fault h))

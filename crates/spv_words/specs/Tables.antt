@@ -1,11 +1,12 @@
--- Tables that are searched.
-use Rattle.std.specs.Prelude.{ℕ, ◌+◌, Bool, true, ◌&&◌, nat_le, List, [], ◌∷◌}
+-- The number of an opcode's row.
+use Rattle.std.specs.Prelude.{ℕ, zero, suc, ◌==◌, if◌then◌else◌, List, [], ◌∷◌}
 use Rattle.spirv_model.specs.declared.table.Row.{Row}
 
--- the opcodes are at least this, and each is above the one before it
-abbrev pub rise_from : ℕ → List Row → Bool
-rise_from least [] = true
-rise_from least (row ∷ rows) = nat_le least row.op && rise_from (row.op + 1) rows
+abbrev pub one_more : ℕ → ℕ
+one_more zero = 0
+one_more (suc number) = suc (suc number)
 
-abbrev pub rises : List Row → Bool
-rises rows = rise_from 0 rows
+-- 1 and the place of the first row with the opcode, or 0 where there is none
+unfoldable pub row_number : List Row → ℕ → ℕ
+row_number [] op = 0
+row_number (row ∷ rows) op = if row.op == op then 1 else one_more (row_number rows op)

@@ -17,7 +17,7 @@ pub fn result(inst: &Inst) -> Option<u32>
         return None;
     };
     let place = result_place(operands)?;
-    Some(inst.words.as_slice().get(place).copied().unwrap_or(0))
+    Some(inst.word(place))
 }
 
 /// The place of the result's id among an instruction's words, if it has one.

@@ -1,4 +1,5 @@
 ghost use Rattle.std.specs.Prelude.{◌≡◌, ◌≤◌, length, IfOk};
+ghost use Rattle.basics.specs.Answer.{IsAnswer};
 ghost use Rattle.spirv_model.specs.Module as spec;
 ghost use Rattle.spv_words.specs.Pieces.{IsListed};
 ghost use Rattle.spv_words.specs.Writing.{AreShort};
@@ -14,7 +15,7 @@ use std::alloc::Global;
 /// Layout of a SPIR-V Module and Instruction"). The first fault is answered: the header's, else that of the first
 /// instruction that breaks a rule, by the order of `WordsFault`.
 pub fn read_module(alloc: Global, words: &[u32]) -> Result<Words, WordsFault>
-    ensures gives { spec.Gives result (spec.module_of words.now) }
+    ensures gives { IsAnswer spec.is_memory (spec.module_of words.now) result }
     ensures short { IfOk result (λ read. AreShort read.insts) }
 {
     if !has_header(words) {
@@ -51,7 +52,7 @@ fn has_header(words: &[u32]) -> bool
 /// The list of the words after the header.
 fn list(alloc: Global, words: &[u32]) -> Result<Items<Inst>, WordsFault>
     requires { length words.now ≤ MODULE_WORDS }
-    ensures gives { spec.Gives result (spec.list_of_cut 0 (spec.cut words.now)) }
+    ensures gives { IsAnswer spec.is_memory (spec.list_of_cut 0 (spec.cut words.now)) result }
     ensures short { IfOk result (λ insts. AreShort insts) }
 {
     let mut insts = Items::new(alloc);

@@ -1,11 +1,9 @@
 -- Digits read one by one.
-use Rattle.std.proofs.Common.{◌≡◌, ℕ, ◌+◌, ◌*◌, ◌^◌, ◌<◌, ◌≤◌, List, [], ◌∷◌, ◌++◌, length, drop, get_or, refl, ap, sym, ◌∙◌, arith, add-one, drop-cons, append_assoc, lit<, Option, None, Some}
+use Rattle.std.proofs.Common.{◌≡◌, ℕ, ◌+◌, ◌*◌, ◌^◌, ◌<◌, ◌≤◌, List, [], ◌∷◌, ◌++◌, length, drop, get_or, refl, ap, sym, ◌∙◌, arith, add-one, append_assoc, lit<, Option, None, Some}
 use Rattle.std.specs.Option.{option_and_then, option_map}
 use Rattle.std.proofs.Math.Nat.{pow-suc, pow-le-pow_right}
+use Rattle.basics.proofs.Lists.{drop_first}
 use Rattle.trace_model.specs.Text.{hex_value, hex_onto, word_value, word_values}
-
-drop_first : (field : List ℕ) (i : ℕ) → i < length field → drop i field ≡ get_or field i 0 ∷ drop (i + 1) field
-drop_first field i h = rw (add-one, drop-cons field i 0) refl
 
 -- hexadecimal digits
 pub hex_next : (field : List ℕ) (i value digit : ℕ) → i < length field → Some digit ≡ hex_value (get_or field i 0)

@@ -61,6 +61,14 @@ integers = inst op.TYPE_INT (1 ∷ 32 ∷ 1 ∷ []) ∷ inst op.TYPE_INT (2 ∷ 
 abbrev array_of : ℕ → Words
 array_of length = module_with (integers ++ inst op.CONSTANT (1 ∷ 3 ∷ length ∷ []) ∷ inst op.TYPE_ARRAY (4 ∷ 1 ∷ 3 ∷ []) ∷ [])
 
+-- of two faults that at the lower place, and at one place the order of the faults
+pub first-faults : map type_fault (
+    module_with (integers ++ inst op.TYPE_BOOL (2 ∷ []) ∷ inst op.TYPE_BOOL (1 ∷ []) ∷ [])
+    ∷ module_with (inst op.TYPE_INT (13 ∷ 16 ∷ 0 ∷ []) ∷ inst op.TYPE_INT (13 ∷ 16 ∷ 0 ∷ []) ∷ []) ∷ [])
+    ≡ Some (IdTwice 2) ∷ Some (IdOutOfBound 0) ∷ []
+unfolding entry_of class_of kinds ids result definition type_of known_of known_after known_by id_twice id_out_of_bound result_type has_later_type breaks_types bad_type constant_fits bad_constant rule_fault type_fault breaks_decorations bad_decoration
+first-faults = refl
+
 -- faults, each with the module that it is in
 pub faults : map type_fault (
     module_with (integers ++ inst op.TYPE_BOOL (2 ∷ []) ∷ [])

@@ -1,11 +1,11 @@
 -- The faults of ids, types, constants and decorations at a place, and their order: the lowest place, and there the order of
 -- the faults.
-use Rattle.std.specs.Prelude.{ℕ, suc, Bool, ◌||◌, if◌then◌else◌, List, Option, None, Some, zero, length}
+use Rattle.std.specs.Prelude.{ℕ, suc, Bool, true, false, ◌||◌, if◌then◌else◌, List, Option, None, Some, zero, length}
 use Rattle.std.specs.Option.{option_or}
 use Rattle.spirv_model.specs.declared.module.Inst.{Inst}
 use Rattle.spirv_model.specs.declared.module.Words.{Words}
 use Rattle.valid_model.specs.declared.type_fault.TypeFault.{TypeFault}
-use Rattle.valid_model.specs.declared.type_fault.TypeFault.TheVariants.{IdTwice, IdOutOfBound, BadType, BadConstant, BadDecoration}
+use Rattle.valid_model.specs.declared.type_fault.TypeFault.TheVariants.{IdTwice, IdOutOfBound, BadType, BadConstant, BadDecoration, Memory}
 use Rattle.valid_model.specs.Constants.{breaks_constants}
 use Rattle.valid_model.specs.Decorations.{bad_decoration}
 use Rattle.valid_model.specs.Definitions.{id_out_of_bound, id_twice, inst_at}
@@ -46,3 +46,8 @@ first_fault fault_at (suc n) = option_or (first_fault fault_at n) (fault_at n)
 -- the fault of a module's ids, types, constants and decorations
 unfoldable pub type_fault : Words → Option TypeFault
 type_fault words = first_fault (type_fault_at words) (length words.insts)
+
+-- want of memory
+abbrev pub is_memory : TypeFault → Bool
+is_memory Memory = true
+is_memory fault = false

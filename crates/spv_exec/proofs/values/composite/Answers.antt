@@ -1,6 +1,7 @@
 use Rattle.std.proofs.Common.{ℕ, ◌+◌, List, get_or, drop, ap, sym, ◌∙◌}
 use Rattle.stage_model.specs.Machine.{parts_of}
-use Rattle.spv_exec.proofs.CompositeWords.{words_after, words_with_part, composite_without, drop_first}
+use Rattle.basics.proofs.Lists.{drop_first}
+use Rattle.spv_exec.proofs.CompositeWords.{words_after, words_with_part, composite_without}
 use Rattle.spv_exec.proofs.values.composite.Goals as goal
 
 pub returns-in_default : goal.returns-in_default

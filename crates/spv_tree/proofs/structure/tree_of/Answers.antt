@@ -1,7 +1,7 @@
 use Rattle.std.proofs.Common.{arith}
 use Rattle.std.proofs.lemmas.Result.{err_from_is_err_and}
-use Rattle.body_model.specs.TreeFaults.{tree_fault}
-use Rattle.spv_tree.specs.Views.{Finds}
+use Rattle.basics.specs.Answer.{FindsFault}
+use Rattle.body_model.specs.TreeFaults.{tree_fault, is_memory}
 use Rattle.spv_tree.proofs.Faults.{is_fault}
 use Rattle.spv_tree.proofs.ModuleWalks.{exactly, tree_fits, begins_within, sequence_fails, closing_fails}
 use Rattle.spv_tree.proofs.OneTree.{is_tree}
@@ -13,7 +13,7 @@ overflow_add-first c = omega (arith, begins_within c.args.insts.now c.in_ok-firs
 pub returns-in_err-first-clause-exact : goal.returns-in_err-first-clause-exact
 returns-in_err-first-clause-exact c =
     let p = err_from_is_err_and c.from_residual.result c.from_residual.ensures.1 in
-    let finds : Finds c.from_residual.result (tree_fault c.args.insts.now) = rw (p.1, p.2) (is_fault _ _ c.in_err-first.ensures) in
+    let finds : FindsFault is_memory (tree_fault c.args.insts.now) c.from_residual.result = rw (p.1, p.2) (is_fault _ _ c.in_err-first.ensures) in
     exactly c.args.insts.now c.from_residual.result finds
 
 pub returns-in_err-part-clause-fault : goal.returns-in_err-part-clause-fault
