@@ -5,12 +5,12 @@ use Rattle.spirv_model.specs.declared.module.Inst.{Inst}
 use Rattle.spirv_model.specs.Operands.{word_at}
 use Rattle.spirv_model.specs.declared.op.TheConstants.{PHI, VARIABLE, LOOP_MERGE, SELECTION_MERGE, BRANCH, BRANCH_CONDITIONAL, KILL, RETURN, UNREACHABLE}
 use Rattle.limits.specs.declared.TheConstants.{NESTING}
-use Rattle.body_model.specs.declared.grammar.Scope.{Scope}
-use Rattle.body_model.specs.declared.grammar.End.{End}
-use Rattle.body_model.specs.declared.grammar.BlockEnd.{BlockEnd}
-use Rattle.body_model.specs.declared.grammar.BlockEnd.TheVariants.{Broken, Ends, GoesOn, Selects, Loops}
-use Rattle.body_model.specs.declared.grammar.TreeFault.{TreeFault}
-use Rattle.body_model.specs.Blocks.{is_plain, is_terminator, leads_to_loop, exit_to, branch_end, test_end, terminator_end, unmerged, selection_end, loop_branch, last_part, rest_of_block, block_end, block_from}
+use Rattle.narrow_body_model.specs.declared.grammar.Scope.{Scope}
+use Rattle.narrow_body_model.specs.declared.grammar.End.{End}
+use Rattle.narrow_body_model.specs.declared.grammar.BlockEnd.{BlockEnd}
+use Rattle.narrow_body_model.specs.declared.grammar.BlockEnd.TheVariants.{Broken, Ends, GoesOn, Selects, Loops}
+use Rattle.narrow_body_model.specs.declared.grammar.TreeFault.{TreeFault}
+use Rattle.narrow_body_model.specs.Blocks.{is_plain, is_terminator, leads_to_loop, exit_to, branch_end, test_end, terminator_end, unmerged, selection_end, loop_branch, last_part, rest_of_block, block_end, block_from}
 
 -- what holds of the label behind each end that the scope allows
 pub record Leaves (F : Option ℕ → Type 0) (scope : Scope) : Type 0 where

@@ -2,15 +2,15 @@
 use Rattle.std.proofs.Common.{◌≡◌, ℕ, ◌<◌, ◌≤◌, List, ◌∷◌, ◌++◌, length, Option, None, Some, refl, ap, subst, sym, ◌∙◌, arith, ⊎_elim}
 use Rattle.std.proofs.lemmas.Bool.{cases_lt}
 use Rattle.spirv_model.specs.declared.module.Inst.{Inst}
-use Rattle.body_model.specs.declared.grammar.Scope.{Scope}
-use Rattle.body_model.specs.declared.grammar.BlockEnd.{BlockEnd}
-use Rattle.body_model.specs.declared.grammar.BlockEnd.TheVariants.{Broken, Ends, GoesOn, Selects, Loops}
-use Rattle.body_model.specs.declared.grammar.TreeFault.{TreeFault}
-use Rattle.body_model.specs.declared.grammar.TreeFault.TheVariants.{BadBlock, BadMerge, BadExit, TooDeep, Memory}
-use Rattle.body_model.specs.Blocks.{block_end, missing}
-use Rattle.body_model.specs.Grammar.{Sequence, ends, goes_on, selects, loops, Arm, straight, through, IsDue, later, merged, arm, condition, body, continuing}
+use Rattle.narrow_body_model.specs.declared.grammar.Scope.{Scope}
+use Rattle.narrow_body_model.specs.declared.grammar.BlockEnd.{BlockEnd}
+use Rattle.narrow_body_model.specs.declared.grammar.BlockEnd.TheVariants.{Broken, Ends, GoesOn, Selects, Loops}
+use Rattle.narrow_body_model.specs.declared.grammar.TreeFault.{TreeFault}
+use Rattle.narrow_body_model.specs.declared.grammar.TreeFault.TheVariants.{BadBlock, BadMerge, BadExit, TooDeep, Memory}
+use Rattle.narrow_body_model.specs.Blocks.{block_end, missing}
+use Rattle.narrow_body_model.specs.Grammar.{Sequence, ends, goes_on, selects, loops, Arm, straight, through, IsDue, later, merged, arm, condition, body, continuing}
 use Rattle.basics.proofs.Answers.{unless_memory}
-use Rattle.body_model.specs.TreeFaults.{is_memory, Due, due, due_arm, dues_after, place_after, unless}
+use Rattle.narrow_body_model.specs.TreeFaults.{is_memory, Due, due, due_arm, dues_after, place_after, unless}
 use Rattle.spv_tree.specs.Views.{IsFault}
 use Rattle.spv_tree.specs.Parts.{walk_at, Fails, IsBlock}
 use Rattle.spv_tree.proofs.LabelMarks.{missing_past}

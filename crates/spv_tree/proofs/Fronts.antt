@@ -1,13 +1,13 @@
 -- The part of a sequence that was read so far.
 use Rattle.std.proofs.Common.{◌≡◌, ℕ, List, [], ◌∷◌, ◌++◌, Option, None, Some, refl, ap, subst, sym, ◌∙◌, append_assoc}
 use Rattle.spirv_model.specs.declared.module.Inst.{Inst}
-use Rattle.body_model.specs.declared.grammar.Scope.{Scope}
-use Rattle.body_model.specs.declared.grammar.End.{End}
-use Rattle.body_model.specs.declared.grammar.BlockEnd.TheVariants.{Ends, GoesOn, Selects, Loops}
-use Rattle.body_model.specs.declared.grammar.TreeFault.{TreeFault}
-use Rattle.body_model.specs.Blocks.{block_end}
-use Rattle.body_model.specs.Grammar.{Sequence, ends, goes_on, selects, loops, IsDue, later, merged}
-use Rattle.body_model.specs.TreeFaults.{Due, due}
+use Rattle.narrow_body_model.specs.declared.grammar.Scope.{Scope}
+use Rattle.narrow_body_model.specs.declared.grammar.End.{End}
+use Rattle.narrow_body_model.specs.declared.grammar.BlockEnd.TheVariants.{Ends, GoesOn, Selects, Loops}
+use Rattle.narrow_body_model.specs.declared.grammar.TreeFault.{TreeFault}
+use Rattle.narrow_body_model.specs.Blocks.{block_end}
+use Rattle.narrow_body_model.specs.Grammar.{Sequence, ends, goes_on, selects, loops, IsDue, later, merged}
+use Rattle.narrow_body_model.specs.TreeFaults.{Due, due}
 use Rattle.spv_tree.specs.declared.sequence.Fork.{Fork}
 use Rattle.spv_tree.specs.declared.sequence.Ring.{Ring}
 use Rattle.spv_tree.specs.declared.tree.Run.{Run}

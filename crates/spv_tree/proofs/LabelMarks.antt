@@ -9,9 +9,9 @@ use Rattle.std.proofs.lemmas.Option.{slice_get_read}
 use Rattle.spirv_model.specs.declared.module.Inst.{Inst}
 use Rattle.spirv_model.specs.Operands.{word_at}
 use Rattle.spirv_model.specs.declared.op.TheConstants.{LABEL}
-use Rattle.body_model.specs.declared.grammar.TreeFault.{TreeFault}
-use Rattle.body_model.specs.declared.grammar.TreeFault.TheVariants.{BadBlock}
-use Rattle.body_model.specs.Blocks.{has_label, missing, misses_label}
+use Rattle.narrow_body_model.specs.declared.grammar.TreeFault.{TreeFault}
+use Rattle.narrow_body_model.specs.declared.grammar.TreeFault.TheVariants.{BadBlock}
+use Rattle.narrow_body_model.specs.Blocks.{has_label, missing, misses_label}
 use Rattle.spv_tree.specs.Parts.{MarksLabels, repeats, misses}
 
 pub missing_past : (insts : List Inst) (wanted : Option ℕ) (place : ℕ) → length insts ≤ place → Some (BadBlock place) ≡ missing insts wanted place

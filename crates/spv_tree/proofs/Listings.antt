@@ -7,12 +7,12 @@ use Rattle.std.proofs.lemmas.List.Elements.{All-head, All-tail}
 use Rattle.std.proofs.lemmas.Option.{slice_get_past}
 use Rattle.std.proofs.lemmas.List.{drop-drop, length-drop, take_more, take_all}
 use Rattle.spirv_model.specs.declared.module.Inst.{Inst}
-use Rattle.body_model.specs.declared.grammar.Scope.{Scope}
-use Rattle.body_model.specs.declared.grammar.End.{End}
-use Rattle.body_model.specs.declared.grammar.BlockEnd.TheVariants.{GoesOn, Selects, Loops}
+use Rattle.narrow_body_model.specs.declared.grammar.Scope.{Scope}
+use Rattle.narrow_body_model.specs.declared.grammar.End.{End}
+use Rattle.narrow_body_model.specs.declared.grammar.BlockEnd.TheVariants.{GoesOn, Selects, Loops}
 use Rattle.spirv_model.specs.declared.op.TheConstants.{FUNCTION}
-use Rattle.body_model.specs.Blocks.{is_module_level}
-use Rattle.body_model.specs.Grammar.{IsOp, main, Sequence, ends, goes_on, selects, loops, Arm, straight, through, later, merged, arm, condition, body, continuing}
+use Rattle.narrow_body_model.specs.Blocks.{is_module_level}
+use Rattle.narrow_body_model.specs.Grammar.{IsOp, main, Sequence, ends, goes_on, selects, loops, Arm, straight, through, later, merged, arm, condition, body, continuing}
 use Rattle.spv_tree.specs.declared.tree.Block.{Block}
 use Rattle.spv_tree.specs.declared.tree.Choice.{Choice, out-Choice}
 use Rattle.spv_tree.specs.declared.tree.Node.{Node}

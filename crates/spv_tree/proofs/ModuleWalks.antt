@@ -8,14 +8,14 @@ use Rattle.std.proofs.lemmas.Bool.{eqb-true, cases_lt}
 use Rattle.std.proofs.lemmas.Option.{slice_get_past, slice_get_read, unwrap_or-slice_get}
 use Rattle.spirv_model.specs.declared.module.Inst.{Inst}
 use Rattle.spirv_model.specs.declared.op.TheConstants.{FUNCTION, FUNCTION_END}
-use Rattle.body_model.specs.declared.grammar.Scope.{Scope}
-use Rattle.body_model.specs.declared.grammar.TreeFault.{TreeFault}
-use Rattle.body_model.specs.declared.grammar.TreeFault.TheVariants.{BadBlock, BadMerge, BadExit, TooDeep, Memory}
+use Rattle.narrow_body_model.specs.declared.grammar.Scope.{Scope}
+use Rattle.narrow_body_model.specs.declared.grammar.TreeFault.{TreeFault}
+use Rattle.narrow_body_model.specs.declared.grammar.TreeFault.TheVariants.{BadBlock, BadMerge, BadExit, TooDeep, Memory}
 use Rattle.spirv_model.specs.Operands.{entry_of, class_of}
-use Rattle.body_model.specs.Blocks.{is_module_level}
-use Rattle.body_model.specs.Grammar.{Derives, IsOp, main}
+use Rattle.narrow_body_model.specs.Blocks.{is_module_level}
+use Rattle.narrow_body_model.specs.Grammar.{Derives, IsOp, main}
 use Rattle.basics.specs.Answer.{FindsFault}
-use Rattle.body_model.specs.TreeFaults.{is_memory, due, walk, walk_module, closing, tree_fault}
+use Rattle.narrow_body_model.specs.TreeFaults.{is_memory, due, walk, walk_module, closing, tree_fault}
 use Rattle.spv_tree.specs.declared.tree.Body.{Body}
 use Rattle.spv_tree.specs.declared.tree.Run.{Run}
 use Rattle.spv_tree.specs.Views.{IsFault}

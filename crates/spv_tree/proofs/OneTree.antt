@@ -1,12 +1,12 @@
 -- All derivations of a list have one tree.
 use Rattle.std.proofs.Common.{◌≡◌, ℕ, suc, ◌+◌, ◌-◌, ◌<◌, List, [], ◌∷◌, length, drop, Option, None, Some, refl, ap, sym, ◌∙◌, arith, length-drop}
 use Rattle.spirv_model.specs.declared.module.Inst.{Inst}
-use Rattle.body_model.specs.declared.grammar.Scope.{Scope}
-use Rattle.body_model.specs.declared.grammar.End.{End}
-use Rattle.body_model.specs.declared.grammar.BlockEnd.{BlockEnd}
-use Rattle.body_model.specs.declared.grammar.BlockEnd.TheVariants.{Ends, GoesOn, Selects, Loops}
-use Rattle.body_model.specs.Blocks.{block_end}
-use Rattle.body_model.specs.Grammar.{Sequence, ends, goes_on, selects, loops, Arm, straight, through, later, merged, arm, condition, body, continuing, Derives, main}
+use Rattle.narrow_body_model.specs.declared.grammar.Scope.{Scope}
+use Rattle.narrow_body_model.specs.declared.grammar.End.{End}
+use Rattle.narrow_body_model.specs.declared.grammar.BlockEnd.{BlockEnd}
+use Rattle.narrow_body_model.specs.declared.grammar.BlockEnd.TheVariants.{Ends, GoesOn, Selects, Loops}
+use Rattle.narrow_body_model.specs.Blocks.{block_end}
+use Rattle.narrow_body_model.specs.Grammar.{Sequence, ends, goes_on, selects, loops, Arm, straight, through, later, merged, arm, condition, body, continuing, Derives, main}
 use Rattle.spv_tree.specs.declared.tree.Node.{Node}
 use Rattle.spv_tree.specs.declared.tree.Node.TheVariants as node
 use Rattle.spv_tree.specs.declared.tree.Run.{Run}

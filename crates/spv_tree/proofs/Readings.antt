@@ -1,10 +1,10 @@
 -- What reading the parts of a construct comes to.
 use Rattle.std.proofs.Common.{◌≡◌, ℕ, ◌∷◌, ◌++◌, List, Option, None, Some, refl, ap, subst, ◌∙◌}
 use Rattle.spirv_model.specs.declared.module.Inst.{Inst}
-use Rattle.body_model.specs.declared.grammar.Scope.{Scope}
-use Rattle.body_model.specs.declared.grammar.TreeFault.{TreeFault}
-use Rattle.body_model.specs.Grammar.{Sequence, Arm, through, arm, condition, body, continuing}
-use Rattle.body_model.specs.TreeFaults.{due, due_arm}
+use Rattle.narrow_body_model.specs.declared.grammar.Scope.{Scope}
+use Rattle.narrow_body_model.specs.declared.grammar.TreeFault.{TreeFault}
+use Rattle.narrow_body_model.specs.Grammar.{Sequence, Arm, through, arm, condition, body, continuing}
+use Rattle.narrow_body_model.specs.TreeFaults.{due, due_arm}
 use Rattle.spv_tree.specs.declared.sequence.Ring.{Ring}
 use Rattle.spv_tree.specs.declared.tree.Run.{Run}
 use Rattle.spv_tree.specs.declared.tree.Node.{Node}

@@ -3,13 +3,13 @@ use Rattle.std.proofs.Common.{◌≡◌, ℕ, zero, suc, ◌+◌, ◌-◌, ◌<�
 use Rattle.std.proofs.lemmas.List.{length-drop, drop-drop}
 use Rattle.std.proofs.lemmas.Bool.Decides.{nat_tests}
 use Rattle.spirv_model.specs.declared.module.Inst.{Inst}
-use Rattle.body_model.specs.declared.grammar.Scope.{Scope}
-use Rattle.body_model.specs.declared.grammar.BlockEnd.{BlockEnd}
-use Rattle.body_model.specs.declared.grammar.BlockEnd.TheVariants.{Broken, Ends, GoesOn, Selects, Loops}
-use Rattle.body_model.specs.declared.grammar.TreeFault.{TreeFault}
-use Rattle.body_model.specs.Blocks.{block_end, missing, misses_label}
-use Rattle.body_model.specs.Grammar.{Sequence, ends, goes_on, selects, loops, Arm, straight, through, IsDue, later, merged, arm, condition, body, continuing}
-use Rattle.body_model.specs.TreeFaults.{Due, due, due_arm, wanting, dues_after, place_after, unless, walk}
+use Rattle.narrow_body_model.specs.declared.grammar.Scope.{Scope}
+use Rattle.narrow_body_model.specs.declared.grammar.BlockEnd.{BlockEnd}
+use Rattle.narrow_body_model.specs.declared.grammar.BlockEnd.TheVariants.{Broken, Ends, GoesOn, Selects, Loops}
+use Rattle.narrow_body_model.specs.declared.grammar.TreeFault.{TreeFault}
+use Rattle.narrow_body_model.specs.Blocks.{block_end, missing, misses_label}
+use Rattle.narrow_body_model.specs.Grammar.{Sequence, ends, goes_on, selects, loops, Arm, straight, through, IsDue, later, merged, arm, condition, body, continuing}
+use Rattle.narrow_body_model.specs.TreeFaults.{Due, due, due_arm, wanting, dues_after, place_after, unless, walk}
 use Rattle.spv_tree.specs.Parts.{walk_at}
 use Rattle.spv_tree.proofs.Ends.{Sound, sound_block, nothing_said}
 

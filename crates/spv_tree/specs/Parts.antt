@@ -4,14 +4,14 @@ use Rattle.spirv_model.specs.declared.module.Inst.{Inst}
 use Rattle.spirv_model.specs.Operands.{word_at}
 use Rattle.spirv_model.specs.declared.op.TheConstants.{LABEL, FUNCTION, FUNCTION_END}
 use Rattle.limits.specs.declared.TheConstants.{NESTING}
-use Rattle.body_model.specs.declared.grammar.Scope.{Scope}
-use Rattle.body_model.specs.declared.grammar.BlockEnd.{BlockEnd}
-use Rattle.body_model.specs.declared.grammar.BlockEnd.TheVariants.{Broken, Ends, GoesOn, Selects, Loops}
-use Rattle.body_model.specs.declared.grammar.TreeFault.{TreeFault}
-use Rattle.body_model.specs.declared.grammar.TreeFault.TheVariants.{BadBlock, BadMerge}
-use Rattle.body_model.specs.Blocks.{is_module_level, has_label, block_end}
-use Rattle.body_model.specs.Grammar.{Sequence, Arm, IsDue, IsOp, condition, body, continuing}
-use Rattle.body_model.specs.TreeFaults.{Due, due, due_arm, walk, tree_fault}
+use Rattle.narrow_body_model.specs.declared.grammar.Scope.{Scope}
+use Rattle.narrow_body_model.specs.declared.grammar.BlockEnd.{BlockEnd}
+use Rattle.narrow_body_model.specs.declared.grammar.BlockEnd.TheVariants.{Broken, Ends, GoesOn, Selects, Loops}
+use Rattle.narrow_body_model.specs.declared.grammar.TreeFault.{TreeFault}
+use Rattle.narrow_body_model.specs.declared.grammar.TreeFault.TheVariants.{BadBlock, BadMerge}
+use Rattle.narrow_body_model.specs.Blocks.{is_module_level, has_label, block_end}
+use Rattle.narrow_body_model.specs.Grammar.{Sequence, Arm, IsDue, IsOp, condition, body, continuing}
+use Rattle.narrow_body_model.specs.TreeFaults.{Due, due, due_arm, walk, tree_fault}
 use Rattle.spv_tree.specs.declared.sequence.Part.{Part}
 use Rattle.spv_tree.specs.declared.sequence.Way.{Way}
 use Rattle.spv_tree.specs.declared.sequence.Built.{Built}

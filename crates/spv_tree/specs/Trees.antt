@@ -3,9 +3,9 @@ use Rattle.std.specs.Prelude.{◌≡◌, ℕ, ◌-◌, ◌==◌, if◌then◌els
 use Rattle.spirv_model.specs.declared.module.Inst.{Inst}
 use Rattle.spirv_model.specs.Operands.{word_at}
 use Rattle.spirv_model.specs.declared.op.TheConstants.{FUNCTION}
-use Rattle.body_model.specs.declared.grammar.Scope.{Scope}
-use Rattle.body_model.specs.declared.grammar.End.{End}
-use Rattle.body_model.specs.Grammar.{Sequence, ends, goes_on, selects, loops, Arm, straight, through, Derives}
+use Rattle.narrow_body_model.specs.declared.grammar.Scope.{Scope}
+use Rattle.narrow_body_model.specs.declared.grammar.End.{End}
+use Rattle.narrow_body_model.specs.Grammar.{Sequence, ends, goes_on, selects, loops, Arm, straight, through, Derives}
 use Rattle.spv_tree.specs.declared.tree.Body.{Body}
 use Rattle.spv_tree.specs.declared.tree.Run.{Run, roll-Run}
 use Rattle.spv_tree.specs.declared.tree.Choice.{roll-Choice}

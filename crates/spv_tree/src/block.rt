@@ -1,9 +1,9 @@
 ghost use Rattle.std.specs.Prelude.{◌≡◌, ◌+◌, ◌<◌, ◌≤◌, ◌^◌, if◌then◌else◌, length};
-ghost use Rattle.body_model.specs.declared.grammar.BlockEnd.TheVariants.{Ends, Broken};
-ghost use Rattle.body_model.specs.declared.grammar.TreeFault.TheVariants.{BadExit};
-ghost use Rattle.body_model.specs.Blocks as spec;
+ghost use Rattle.narrow_body_model.specs.declared.grammar.BlockEnd.TheVariants.{Ends, Broken};
+ghost use Rattle.narrow_body_model.specs.declared.grammar.TreeFault.TheVariants.{BadExit};
+ghost use Rattle.narrow_body_model.specs.Blocks as spec;
 
-use body_model::grammar::{BlockEnd, End, LoopExits, Scope, TreeFault};
+use narrow_body_model::grammar::{BlockEnd, End, LoopExits, Scope, TreeFault};
 use limits::NESTING;
 use spirv_model::class::Class;
 use spirv_model::{Inst, op};
@@ -268,7 +268,7 @@ fn loop_branch(
 }
 
 /// The merge instruction or the terminator of the block with this label.
-#[tactic(auto, unfolding(body_model::specs::Blocks::last_part))]
+#[tactic(auto, unfolding(narrow_body_model::specs::Blocks::last_part))]
 fn last_part(scope: Scope, label: u32, inst: &Inst, rest: &[Inst], place: u32) -> BlockEnd
     requires { place + 1 + length rest.now < 2 ^ 32 }
     ensures { result ≡ spec.last_part scope label inst.now rest.now place }
@@ -315,7 +315,7 @@ fn rest_of_block(scope: Scope, label: u32, rest: &[Inst], place: u32) -> BlockEn
 }
 
 /// How the block at a place ends. The instruction there is its OpLabel.
-#[tactic(auto, unfolding(body_model::specs::Blocks::block_end))]
+#[tactic(auto, unfolding(narrow_body_model::specs::Blocks::block_end))]
 pub fn block_end(insts: &[Inst], scope: Scope, place: u32) -> BlockEnd
     requires within { place ≤ length insts.now }
     requires few { length insts.now < 2 ^ 32 }

@@ -3,11 +3,11 @@ ghost use Rattle.std.specs.Ordering.{nat_cmp};
 ghost use Rattle.std.specs.BTreeSet.{contains};
 ghost use Rattle.spirv_model.specs.declared.op.TheConstants.{LABEL};
 ghost use Rattle.spirv_model.specs.Operands.{word_at};
-ghost use Rattle.body_model.specs.Blocks as spec;
+ghost use Rattle.narrow_body_model.specs.Blocks as spec;
 ghost use Rattle.spv_tree.specs.Parts as parts;
 ghost use Rattle.spv_tree.specs.Parts.{MarksLabels};
 
-use body_model::grammar::TreeFault;
+use narrow_body_model::grammar::TreeFault;
 use spirv_model::{Inst, op};
 use std::alloc::{AllocError, Global};
 use std::collections::BTreeSet;

@@ -9,7 +9,7 @@ mod sequence;
 mod structure;
 mod tree;
 
-pub use body_model::grammar::{End, TreeFault};
+pub use narrow_body_model::grammar::{End, TreeFault};
 pub use flat::flatten;
 pub use spirv_model::{Inst, Items};
 pub use sqlite_items::Boxed;

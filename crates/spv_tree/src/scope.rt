@@ -1,7 +1,7 @@
 ghost use Rattle.std.specs.Prelude.{◌≡◌, ◌<◌};
-ghost use Rattle.body_model.specs.Grammar as spec;
+ghost use Rattle.narrow_body_model.specs.Grammar as spec;
 
-use body_model::grammar::{LoopExits, Scope};
+use narrow_body_model::grammar::{LoopExits, Scope};
 use limits::NESTING;
 
 /// The function's own sequence.

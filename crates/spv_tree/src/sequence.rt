@@ -6,7 +6,7 @@ use crate::block::block_end;
 use crate::labels::missing;
 use crate::scope;
 use crate::tree::{Block, Choice, Node, Round, Run};
-use body_model::grammar::{BlockEnd, Scope, TreeFault};
+use narrow_body_model::grammar::{BlockEnd, Scope, TreeFault};
 use limits::NESTING;
 use spirv_model::Inst;
 use sqlite_items::{Boxed, Items};

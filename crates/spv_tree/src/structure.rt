@@ -1,8 +1,8 @@
 ghost use Rattle.std.specs.Prelude.{◌≡◌, ◌<◌, ◌^◌, length, IfOk, IfErr};
 ghost use Rattle.basics.specs.Answer.{FindsFault};
-ghost use Rattle.body_model.specs.declared.grammar.TreeFault.TheVariants.{Memory};
-ghost use Rattle.body_model.specs.Grammar.{Derives};
-ghost use Rattle.body_model.specs.TreeFaults.{tree_fault, is_memory};
+ghost use Rattle.narrow_body_model.specs.declared.grammar.TreeFault.TheVariants.{Memory};
+ghost use Rattle.narrow_body_model.specs.Grammar.{Derives};
+ghost use Rattle.narrow_body_model.specs.TreeFaults.{tree_fault, is_memory};
 ghost use Rattle.spv_tree.specs.Trees.{IsTreeOf};
 ghost use Rattle.spv_tree.specs.Parts.{FindsFunction, FindsEnd};
 
@@ -11,7 +11,7 @@ use crate::labels::repeated_labels;
 use crate::scope;
 use crate::sequence::sequence;
 use crate::tree::Body;
-use body_model::grammar::TreeFault;
+use narrow_body_model::grammar::TreeFault;
 use spirv_model::{Inst, op};
 use std::alloc::Global;
 

@@ -1,4 +1,4 @@
-use body_model::grammar::End;
+use narrow_body_model::grammar::End;
 use sqlite_items::{Boxed, Items};
 
 /// A function's blocks as a tree (SPIR-V specification, section 2.11 "Structured Control Flow").

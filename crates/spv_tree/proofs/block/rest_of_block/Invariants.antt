@@ -1,5 +1,5 @@
 use Rattle.std.proofs.Common.{◌≡◌, ◌+◌, ◌<◌, ◌^◌, length}
-use Rattle.body_model.specs.Blocks.{leads_to_loop, rest_of_block}
+use Rattle.narrow_body_model.specs.Blocks.{leads_to_loop, rest_of_block}
 use Rattle.spv_tree.proofs.block.rest_of_block.Given as goal
 
 abbrev pub invariant-loop-inst : goal.invariant-loop-inst

@@ -1,6 +1,6 @@
 use Rattle.std.proofs.Common.{rules, List, ap, refl, arith}
 use Rattle.std.proofs.lemmas.Result.{err_from_is_err_and}
-use Rattle.body_model.specs.Grammar.{straight}
+use Rattle.narrow_body_model.specs.Grammar.{straight}
 use Rattle.spv_tree.specs.declared.tree.Node.{Node}
 use Rattle.spv_tree.specs.Trees.{run}
 use Rattle.spv_tree.proofs.Faults.{fails_second_arm, fails_choice, fails_round, forward, arm_forward}

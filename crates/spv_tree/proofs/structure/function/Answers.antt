@@ -1,6 +1,6 @@
 use Rattle.std.proofs.Common.{arith, sym, ◌∙◌}
 use Rattle.std.specs.Prelude.{IsTrue}
-use Rattle.body_model.specs.Blocks.{is_module_level}
+use Rattle.narrow_body_model.specs.Blocks.{is_module_level}
 use Rattle.spv_tree.proofs.ModuleWalks.{all_more, level_more, level_left, level_past}
 use Rattle.spv_tree.proofs.structure.function.Goals as goal
 

@@ -1,7 +1,7 @@
 use Rattle.std.proofs.Common.{◌≡◌, drop, take}
 use Rattle.std.specs.Prelude.{All, IsTrue}
-use Rattle.body_model.specs.Blocks.{is_module_level}
-use Rattle.body_model.specs.TreeFaults.{walk_module}
+use Rattle.narrow_body_model.specs.Blocks.{is_module_level}
+use Rattle.narrow_body_model.specs.TreeFaults.{walk_module}
 use Rattle.spv_tree.proofs.structure.function.Given as goal
 
 abbrev pub invariant-loop-inst : goal.invariant-loop-inst

@@ -1,7 +1,7 @@
 use Rattle.std.proofs.Common.{arith}
 use Rattle.std.proofs.lemmas.Result.{err_from_is_err_and}
 use Rattle.basics.specs.Answer.{FindsFault}
-use Rattle.body_model.specs.TreeFaults.{tree_fault, is_memory}
+use Rattle.narrow_body_model.specs.TreeFaults.{tree_fault, is_memory}
 use Rattle.spv_tree.proofs.Faults.{is_fault}
 use Rattle.spv_tree.proofs.ModuleWalks.{exactly, tree_fits, begins_within, sequence_fails, closing_fails}
 use Rattle.spv_tree.proofs.OneTree.{is_tree}
