@@ -1,9 +1,7 @@
 //! Which instruction defines an id, and whether ids stand below the bound.
-ghost use Rattle.std.specs.Prelude.{◌≡◌, ℕ, ◌<◌, ◌^◌, List, length, IfOk, OnOk};
-ghost use Rattle.spirv_model.specs.declared.module.Inst.{Inst};
-ghost use Rattle.spirv_model.specs.Operands as operands;
+ghost use Rattle.std.specs.Prelude.{◌≡◌, ◌<◌, ◌^◌, length, IfOk, OnOk};
 ghost use Rattle.valid_model.specs.Definitions as spec;
-ghost use Rattle.spv_types.specs.Tables.{in_places, first_place, HasPlaces};
+ghost use Rattle.spv_types.specs.Tables.{AddsPlace, HasPlaces, IsResultTwice};
 
 use spirv_model::Inst;
 use spv_words::{ids_are_below, result};
@@ -33,7 +31,7 @@ pub fn definitions(alloc: Global, insts: &[Inst]) -> Result<Places, AllocError>
 }
 
 fn define_place(places: &mut Places, inst: &Inst, place: u32) -> Result<(), AllocError>
-    ensures { OnOk result ((id : ℕ) → in_places places.new id ≡ first_place (in_places places.old id) (spec.gives id inst.now) place) }
+    ensures { OnOk result (AddsPlace inst.now place places.old places.new) }
 {
     let Some(id) = result(inst) else {
         return Ok(());
@@ -46,7 +44,7 @@ fn define_place(places: &mut Places, inst: &Inst, place: u32) -> Result<(), Allo
 
 /// The id of the instruction's result, where an earlier instruction has that result.
 pub fn id_twice(places: &Places, inst: &Inst, place: usize) -> Option<u32>
-    ensures { (insts : List Inst) → HasPlaces places.now insts → result ≡ spec.twice_by insts place (operands.result inst.now) }
+    ensures { IsResultTwice places.now inst.now place result }
 {
     let id = result(inst)?;
     let at = places.get(&id)?;
