@@ -7,6 +7,7 @@ ghost use Rattle.std.specs.Int.{w32, IsNonZero};
 
 use spirv_model::op;
 
+/// The result of the operation with this opcode for a word, if it makes a word of one.
 #[tactic(auto, unfolding(scalar_model::specs::Scalars::word_from_word))]
 pub fn word_from_word(op: u16, word: u32) -> Option<u32>
     ensures { result ≡ option_map (λ f. f word) (word_from_word op) }
@@ -19,6 +20,7 @@ pub fn word_from_word(op: u16, word: u32) -> Option<u32>
     }
 }
 
+/// The result of the operation with this opcode for two words, if it makes a word of two.
 pub fn word_from_words(op: u16, left: u32, right: u32) -> Option<u32>
     ensures { result ≡ option_map (λ f. f left right) (word_from_words op) }
 {

@@ -11,6 +11,7 @@ use std::collections::BTreeMap;
 /// The place of each id's definition.
 pub type Places = BTreeMap<u32, u32>;
 
+/// The instruction at this place.
 pub fn inst_at(insts: &[Inst], place: usize) -> &Inst
     requires { place < length insts.now }
     ensures { result.now ≡ spec.inst_at insts.now place }
@@ -55,6 +56,7 @@ pub fn id_twice(places: &Places, inst: &Inst, place: usize) -> Option<u32>
     }
 }
 
+/// Whether an id of the instruction is 0 or isn't below the bound.
 #[tactic(auto, unfolding(valid_model::specs::Definitions::id_out_of_bound))]
 pub fn id_out_of_bound(bound: u32, inst: &Inst) -> bool
     ensures { result ≡ spec.id_out_of_bound bound inst.now }

@@ -25,6 +25,7 @@ pub struct EarlierTables {
     pub position: bool,
 }
 
+/// What stands before the first place.
 pub fn no_earlier_facts(alloc: Global) -> EarlierTables
     ensures { (facts : ModuleFacts) → StandsFor facts [] (before_in result) }
 {

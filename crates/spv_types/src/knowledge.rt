@@ -10,6 +10,7 @@ use valid_model::{IdFacts, Meaning, Shape};
 /// What is known of each id that is defined so far.
 pub type Table = BTreeMap<u32, IdFacts>;
 
+/// Whether the id is OpTypeVoid.
 pub fn is_void(table: &Table, id: u32) -> bool
     ensures { result ≡ spec.is_void (meaning_by table.now id) }
 {
@@ -22,6 +23,7 @@ pub fn is_void(table: &Table, id: u32) -> bool
     )
 }
 
+/// Whether the id is OpTypeBool.
 pub fn is_bool(table: &Table, id: u32) -> bool
     ensures { result ≡ spec.is_bool (meaning_by table.now id) }
 {
@@ -34,6 +36,7 @@ pub fn is_bool(table: &Table, id: u32) -> bool
     )
 }
 
+/// Whether the id is the type of an integer.
 pub fn is_integer(table: &Table, id: u32) -> bool
     ensures { result ≡ spec.is_integer (meaning_by table.now id) }
 {
@@ -52,6 +55,7 @@ fn is_data_shape(shape: &Shape) -> bool
     !matches!(shape, Shape::Void | Shape::Pointer { .. } | Shape::Function)
 }
 
+/// Whether the id is a type that arrays, structures and variables may hold.
 pub fn is_data(table: &Table, id: u32) -> bool
     ensures { result ≡ spec.is_data (meaning_by table.now id) }
 {
@@ -80,6 +84,7 @@ pub fn length(table: &Table, id: u32) -> u32
     table.get(&id).map_or(0, |known| known.length)
 }
 
+/// Whether pointers and variables may have this storage class.
 pub fn is_storage_class(class: u32) -> bool
     ensures { result ≡ spec.is_storage_class class }
 {
@@ -91,6 +96,7 @@ pub fn is_storage_class(class: u32) -> bool
         || class == storage_class::PUSH_CONSTANT
 }
 
+/// A type of this shape and so many words.
 pub fn a_type(shape: Shape, size: u32) -> IdFacts
     ensures { result ≡ spec.a_type shape size }
 {
@@ -101,6 +107,7 @@ pub fn a_type(shape: Shape, size: u32) -> IdFacts
     }
 }
 
+/// An id with this meaning that is no type and no length of an array.
 pub fn means(meaning: Meaning) -> IdFacts
     ensures { result ≡ spec.means meaning }
 {

@@ -11,6 +11,7 @@ use spv_words::class_of;
 use std::alloc::{AllocError, Global};
 use valid_model::{IdFacts, Meaning};
 
+/// Whether an instruction with this opcode makes a constant or a specialization constant.
 pub fn is_constant(opcode: u16) -> bool
     ensures { result ≡ spec.is_constant opcode }
 {

@@ -51,6 +51,7 @@ fn select_fits(table: &Table, ty: u32, condition: u32, a: u32, b: u32) -> bool
         && is_constant_of(table, ty, b)
 }
 
+/// Whether the operation with this opcode fits its operands and the type of its result.
 pub fn operation_fits(table: &Table, ty: u32, opcode: u32, operands: &[u32]) -> bool
     ensures { result ≡ spec.operation_fits (in_table table.now) ty opcode operands.now }
 {

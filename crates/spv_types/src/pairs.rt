@@ -8,6 +8,7 @@ use std::collections::{BTreeMap, BTreeSet};
 /// A word by an id and a number.
 pub type Pairs = BTreeMap<(u32, usize), u32>;
 
+/// Pairs of an id and a number, or of two numbers.
 pub type PairSet = BTreeSet<(u32, u32)>;
 
 /// Keeps the word, where there is none yet.
@@ -20,6 +21,7 @@ pub fn keep_first(map: &mut Pairs, a: u32, b: usize, word: u32) -> Result<(), Al
     Ok(())
 }
 
+/// Adds the pair.
 pub fn add_pair(set: &mut PairSet, a: u32, b: u32) -> Result<(), AllocError>
     ensures { OnOk result (AddsPair a b set.old set.new) }
 {

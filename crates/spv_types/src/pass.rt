@@ -52,6 +52,7 @@ fn earlier(found: Option<Found>, place: usize, fault: Option<TypeFault>) -> Opti
     Some(Found { place, fault })
 }
 
+/// Goes over all instructions.
 pub fn go_over(alloc: Global, words: &Words, places: &Places) -> Result<FirstPass, AllocError>
     requires few { length words.now.insts < 2 ^ 32 }
     requires defined { HasPlaces places.now words.now.insts }

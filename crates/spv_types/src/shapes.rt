@@ -37,6 +37,7 @@ fn is_position_type(table: &Table, id: u32) -> bool
     }
 }
 
+/// Whether the id is the type of an array.
 pub fn is_array(table: &Table, id: u32) -> bool
     ensures { result ≡ spec.is_array (meaning_by table.now id) }
 {
@@ -74,6 +75,7 @@ pub fn holds_integers(whole: &ModuleTables, ty: u32) -> bool
     }
 }
 
+/// Whether a variable of this type holds an integer.
 pub fn holds_integer(whole: &ModuleTables, ty: u32) -> bool
     ensures { result ≡ knowledge.is_integer (spec.held_type (facts_in whole.now) ty) }
 {
@@ -83,6 +85,7 @@ pub fn holds_integer(whole: &ModuleTables, ty: u32) -> bool
     }
 }
 
+/// Whether a variable of this type holds a truth value.
 pub fn holds_bool(whole: &ModuleTables, ty: u32) -> bool
     ensures { result ≡ knowledge.is_bool (spec.held_type (facts_in whole.now) ty) }
 {
@@ -92,6 +95,7 @@ pub fn holds_bool(whole: &ModuleTables, ty: u32) -> bool
     }
 }
 
+/// Whether a variable of this type holds four signed integers.
 pub fn holds_position(whole: &ModuleTables, ty: u32) -> bool
     ensures { result ≡ spec.is_position_type (spec.held_type (facts_in whole.now) ty) }
 {

@@ -13,6 +13,7 @@ use spv_words::{class_of, entry_of};
 use std::alloc::{AllocError, Global};
 use valid_model::{IdFacts, Meaning, Members, Shape};
 
+/// Whether an instruction with this opcode declares a type.
 pub fn is_type(opcode: u16) -> bool
     ensures { result ≡ spec.is_type opcode }
 {
@@ -187,6 +188,7 @@ fn is_function(table: &Table, id: u32) -> bool
     )
 }
 
+/// Whether the instruction declares a type, a variable or a function that isn't allowed.
 #[tactic(auto, unfolding(valid_model::specs::Types::breaks_types))]
 pub fn breaks_types(alloc: Global, table: &Table, inst: &Inst) -> Result<bool, AllocError>
     ensures { IfOk result (λ breaks. breaks ≡ spec.breaks_types (in_table table.now) inst.now) }
