@@ -2,9 +2,8 @@
 #![tactic(auto)]
 
 ghost use Rattle.std.specs.Prelude.{◌≡◌, IsSome};
-ghost use Rattle.std.specs.Option.{option_or, option_map};
-ghost use Rattle.scalar_model.specs.Scalars.{scalar_result, folded, selected, word_from_words, comparison};
-ghost use Rattle.scalar_model.specs.declared.scalar_value.Scalar.TheVariants.{Bool as Truth, Word};
+ghost use Rattle.scalar_model.specs.Scalars.{scalar_result, folded, selected};
+ghost use Rattle.spv_ops.specs.Results.{result_of_words};
 
 mod truths;
 mod words;
@@ -55,7 +54,7 @@ fn result_of(op: u16, args: &[Scalar]) -> Option<Scalar>
 }
 
 fn of_words(op: u16, left: u32, right: u32) -> Option<Scalar>
-    ensures { result ≡ option_or (option_map (λ f. Word (f left right)) (word_from_words op)) (option_map (λ f. Truth (f left right)) (comparison op)) }
+    ensures { result ≡ result_of_words op left right }
 {
     match word_from_words(op, left, right) {
         Some(word) => Some(Word(word)),

@@ -5,6 +5,7 @@ ghost use Rattle.scalar_model.specs.Scalars.{comparison, truth_from_truth, truth
 
 use spirv_model::op;
 
+/// The result of the operation with this opcode for a truth value, if it makes a truth value of one.
 #[tactic(auto, unfolding(scalar_model::specs::Scalars::truth_from_truth))]
 pub fn truth_from_truth(op: u16, truth: bool) -> Option<bool>
     ensures { result ≡ option_map (λ f. f truth) (truth_from_truth op) }
@@ -15,6 +16,7 @@ pub fn truth_from_truth(op: u16, truth: bool) -> Option<bool>
     }
 }
 
+/// The result of the operation with this opcode for two truth values, if it makes a truth value of two.
 #[tactic(auto, unfolding(scalar_model::specs::Scalars::truth_from_truths))]
 pub fn truth_from_truths(op: u16, left: bool, right: bool) -> Option<bool>
     ensures { result ≡ option_map (λ f. f left right) (truth_from_truths op) }
@@ -28,6 +30,7 @@ pub fn truth_from_truths(op: u16, left: bool, right: bool) -> Option<bool>
     }
 }
 
+/// The result of the comparison with this opcode, if it is one of words.
 #[tactic(auto, unfolding(scalar_model::specs::Scalars::comparison))]
 pub fn comparison(op: u16, left: u32, right: u32) -> Option<bool>
     ensures { result ≡ option_map (λ f. f left right) (comparison op) }

@@ -1,12 +1,13 @@
 //! The operations that make a word.
 ghost use Rattle.std.specs.Prelude.{◌≡◌};
 ghost use Rattle.std.specs.Option.{option_map};
-ghost use Rattle.scalar_model.specs.Scalars.{word_from_word, word_from_words, arithmetic, bitwise, signed_quotient, signed_remainder, modulo, signed_modulo, shifted, sign_in_every_bit, divided};
-ghost use Rattle.basics.specs.Word.{signed_word, word_of};
-ghost use Rattle.std.specs.Int.{w32, int_shr, IsNonZero};
+ghost use Rattle.scalar_model.specs.Scalars.{word_from_word, word_from_words, arithmetic, bitwise, signed_quotient, signed_remainder, modulo, signed_modulo, divided};
+ghost use Rattle.spv_ops.specs.Results.{arithmetic_shift};
+ghost use Rattle.std.specs.Int.{w32, IsNonZero};
 
 use spirv_model::op;
 
+/// The result of the operation with this opcode for a word, if it makes a word of one.
 #[tactic(auto, unfolding(scalar_model::specs::Scalars::word_from_word))]
 pub fn word_from_word(op: u16, word: u32) -> Option<u32>
     ensures { result ≡ option_map (λ f. f word) (word_from_word op) }
@@ -19,6 +20,7 @@ pub fn word_from_word(op: u16, word: u32) -> Option<u32>
     }
 }
 
+/// The result of the operation with this opcode for two words, if it makes a word of two.
 pub fn word_from_words(op: u16, left: u32, right: u32) -> Option<u32>
     ensures { result ≡ option_map (λ f. f left right) (word_from_words op) }
 {
@@ -107,7 +109,7 @@ fn bitwise(op: u16, left: u32, right: u32) -> Option<u32>
 }
 
 fn shift_right_arithmetic(word: u32, bits: u32) -> u32
-    ensures { result ≡ shifted (λ a k. word_of (int_shr (signed_word a) k)) sign_in_every_bit word bits }
+    ensures { result ≡ arithmetic_shift word bits }
 {
     word.cast_signed().unbounded_shr(bits).cast_unsigned()
 }

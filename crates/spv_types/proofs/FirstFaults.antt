@@ -6,7 +6,7 @@ use Rattle.std.proofs.lemmas.Bool.{cases_lt}
 use Rattle.basics.specs.Answer.{FaultUnlessMemory}
 use Rattle.basics.proofs.Answers.{unless_memory}
 use Rattle.spirv_model.specs.declared.module.Words.{Words}
-use Rattle.valid_model.specs.declared.meaning.Known.{Known}
+use Rattle.valid_model.specs.declared.meaning.IdFacts.{IdFacts}
 use Rattle.valid_model.specs.declared.meaning.Meaning.TheVariants.{Absent}
 use Rattle.valid_model.specs.declared.type_fault.TypeFault.{TypeFault}
 use Rattle.valid_model.specs.declared.type_fault.TypeFault.TheVariants.{BadDecoration}
@@ -15,10 +15,10 @@ use Rattle.valid_model.specs.Meanings.{meaning}
 use Rattle.valid_model.specs.Decorations.{bad_decoration}
 use Rattle.valid_model.specs.FirstFault.{first_fault, rule_fault, type_fault, type_fault_at, is_memory}
 use Rattle.spv_types.specs.declared.pass.Found.{Found}
-use Rattle.spv_types.specs.declared.pass.Pass.{Pass}
+use Rattle.spv_types.specs.declared.pass.FirstPass.{FirstPass}
 use Rattle.spv_types.specs.Answers.{meaning_or}
 use Rattle.spv_types.specs.FirstBad.{IsFirstBad, FindsFirstBad, bad_else}
-use Rattle.spv_types.specs.Tables.{in_table, IsFirst, FindsFirst, GoesOver}
+use Rattle.spv_types.specs.Tables.{in_table, IsFirst, FindsFirst, IsFirstPass}
 
 pub first_fault-none : (fault_at : ℕ → Option TypeFault) (n : ℕ) → ((place : ℕ) → place < n → fault_at place ≡ None) → first_fault fault_at n ≡ None
 first_fault-none fault_at zero none = refl
@@ -88,9 +88,9 @@ without words None none bad = sym (sound_all words none bad)
 pub fails_by : (words : Words) (fault : TypeFault) → type_fault words ≡ Some fault → FaultUnlessMemory is_memory (λ (f : TypeFault). type_fault words ≡ Some f) fault
 fails_by words fault is = unless_memory (is_memory fault) (type_fault words ≡ Some fault) is
 
-absent_or : (known : Option Known) → meaning_or Absent known ≡ meaning_in known
+absent_or : (known : Option IdFacts) → meaning_or Absent known ≡ meaning_in known
 absent_or None = refl
 absent_or (Some known) = refl
 
-pub meanings : (words : Words) (pass : Pass) → GoesOver words pass → (id : ℕ) → meaning_or Absent (in_table pass.table id) ≡ meaning words.insts id
+pub meanings : (words : Words) (pass : FirstPass) → IsFirstPass words pass → (id : ℕ) → meaning_or Absent (in_table pass.table id) ≡ meaning words.insts id
 meanings words pass over id = absent_or (in_table pass.table id) ∙ ap meaning_in (over.known id)

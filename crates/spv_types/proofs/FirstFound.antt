@@ -6,19 +6,19 @@ use Rattle.std.specs.List.{find}
 use Rattle.std.proofs.lemmas.List.{take_more}
 use Rattle.std.proofs.lemmas.List.Folds.{find-append}
 use Rattle.spirv_model.specs.declared.module.Inst.{Inst}
-use Rattle.spv_types.specs.Pairs.{said}
+use Rattle.spv_types.specs.Pairs.{word_if}
 
 map_or : (f : Inst → ℕ) (found other : Option Inst) → option_map f (option_or found other) ≡ option_or (option_map f found) (option_map f other)
 map_or f None other = refl
 map_or f (Some inst) other = refl
 
-only : (test : Bool) (f : Inst → ℕ) (p : Inst → Bool) (inst : Inst) → p inst ≡ test → option_map f (find p (inst ∷ [])) ≡ said test (f inst)
+only : (test : Bool) (f : Inst → ℕ) (p : Inst → Bool) (inst : Inst) → p inst ≡ test → option_map f (find p (inst ∷ [])) ≡ word_if test (f inst)
 only true f p inst is = rw is refl
 only false f p inst is = rw is refl
 
 -- what the first instruction that passes says, after one more
 pub found_more : (p : Inst → Bool) (f : Inst → ℕ) (insts : List Inst) (i : ℕ) (inst : Inst) → i < length insts → inst ≡ get_or insts i inst
-    → option_map f (find p (take (i + 1) insts)) ≡ option_or (option_map f (find p (take i insts))) (said (p inst) (f inst))
+    → option_map f (find p (take (i + 1) insts)) ≡ option_or (option_map f (find p (take i insts))) (word_if (p inst) (f inst))
 found_more p f insts i inst within is =
     ap (λ xs. option_map f (find p xs)) (take_more insts i inst within ∙ ap (λ (x : Inst). take i insts ++ x ∷ []) (sym is))
     ∙ ap (option_map f) (find-append p (take i insts) (inst ∷ []))
@@ -27,7 +27,7 @@ found_more p f insts i inst within is =
 
 -- a table keeps pace
 pub keeps_pace : (p : Inst → Bool) (f : Inst → ℕ) (insts : List Inst) (i : ℕ) (inst : Inst) (old new : Option ℕ) → i < length insts → inst ≡ get_or insts i inst
-    → old ≡ option_map f (find p (take i insts)) → new ≡ option_or old (said (p inst) (f inst))
+    → old ≡ option_map f (find p (take i insts)) → new ≡ option_or old (word_if (p inst) (f inst))
     → new ≡ option_map f (find p (take (i + 1) insts))
 keeps_pace p f insts i inst old new within is before now =
-    now ∙ ap (λ o. option_or o (said (p inst) (f inst))) before ∙ sym (found_more p f insts i inst within is)
+    now ∙ ap (λ o. option_or o (word_if (p inst) (f inst))) before ∙ sym (found_more p f insts i inst within is)

@@ -7,7 +7,7 @@ use Rattle.std.specs.declared.cmp.Ordering.TheVariants.{Less, Equal, Greater}
 use Rattle.std.specs.Ordering.{nat_cmp, ordering_then, is_eq}
 use Rattle.std.specs.BTreeMap.{BTreeMap}
 use Rattle.std.proofs.lemmas.Bool.Decides.{nat_tests}
-use Rattle.spv_types.specs.Pairs.{pair_cmp, at_pair, said}
+use Rattle.spv_types.specs.Pairs.{pair_cmp, at_pair, word_if}
 
 pub both_equal : (o p : Ordering) → is_eq (ordering_then o p) ≡ (is_eq o && is_eq p)
 both_equal Less p = refl
@@ -20,7 +20,7 @@ equal_numbers a b = grind (arith, nat_tests)
 pub same_pair : (a b c d : ℕ) → is_eq (pair_cmp (a, b) (c, d)) ≡ ((a == c) && (b == d))
 same_pair a b c d = both_equal (nat_cmp a c) (nat_cmp b d) ∙ ap (λ t. t && is_eq (nat_cmp b d)) (equal_numbers a c) ∙ ap (λ t. (a == c) && t) (equal_numbers b d)
 
-by_test : (t : Bool) (old : Option ℕ) (word : ℕ) → (t ≡ true → old ≡ None) → cond t (Some word) old ≡ option_or old (said t word)
+by_test : (t : Bool) (old : Option ℕ) (word : ℕ) → (t ≡ true → old ≡ None) → cond t (Some word) old ≡ option_or old (word_if t word)
 by_test true old word none = rw (none refl) refl
 by_test false None word none = refl
 by_test false (Some own) word none = refl
@@ -39,7 +39,7 @@ absent old a b c d none same =
 pub kept_first : (old new : BTreeMap (ℕ × ℕ) ℕ) (a b c d word : ℕ)
     → at_pair new c d ≡ cond (is_eq (pair_cmp (a, b) (c, d))) (Some word) (at_pair old c d)
     → is_some (at_pair old a b) ≡ false
-    → at_pair new c d ≡ option_or (at_pair old c d) (said ((a == c) && (b == d)) word)
+    → at_pair new c d ≡ option_or (at_pair old c d) (word_if ((a == c) && (b == d)) word)
 kept_first old new a b c d word now none =
     now ∙ ap (λ t. cond t (Some word) (at_pair old c d)) (same_pair a b c d)
     ∙ by_test ((a == c) && (b == d)) (at_pair old c d) word (absent old a b c d none)

@@ -1,18 +1,19 @@
 -- What the table of a module's ids tells.
 use Rattle.std.specs.Prelude.{◌≡◌, ℕ, Option, None, Some, Result}
 use Rattle.basics.specs.Answer.{UnlessMemory}
+use Rattle.spirv_model.specs.declared.decoration.TheConstants.{BINDING, DESCRIPTOR_SET}
 use Rattle.spirv_model.specs.declared.module.Words.{Words}
 use Rattle.valid_model.specs.declared.meaning.Meaning.{Meaning}
-use Rattle.valid_model.specs.declared.meaning.Known.{Known}
+use Rattle.valid_model.specs.declared.meaning.IdFacts.{IdFacts}
 use Rattle.valid_model.specs.declared.type_fault.TypeFault.{TypeFault}
 use Rattle.valid_model.specs.Meanings.{meaning}
-use Rattle.valid_model.specs.DecorationWords.{decoration_of, offset_of}
+use Rattle.valid_model.specs.DecorationWords.{both, decoration_of, offset_of}
 use Rattle.valid_model.specs.FirstFault.{type_fault, is_memory}
 use Rattle.spv_types.specs.declared.ids.Ids.{Ids}
 use Rattle.spv_types.specs.Pairs.{at_pair}
 use Rattle.spv_types.specs.Tables.{in_table}
 
-abbrev pub meaning_or : Meaning → Option Known → Meaning
+abbrev pub meaning_or : Meaning → Option IdFacts → Meaning
 meaning_or default None = default
 meaning_or default (Some known) = known.meaning
 
@@ -20,9 +21,12 @@ meaning_or default (Some known) = known.meaning
 abbrev pub meaning_at : Ids → ℕ → Meaning
 meaning_at ids id = meaning_or ids.absent (in_table ids.table id)
 
--- the word of an id's decoration, and the offset of a member, as they are told
+-- the word of an id's decoration, its slot, and the offset of a member, as they are told
 abbrev pub decoration_at : Ids → ℕ → ℕ → Option ℕ
 decoration_at ids id decoration = at_pair ids.decorations.words id decoration
+
+abbrev pub slot_at : Ids → ℕ → Option (ℕ × ℕ)
+slot_at ids id = both (decoration_at ids id DESCRIPTOR_SET) (decoration_at ids id BINDING)
 
 abbrev pub offset_at : Ids → ℕ → ℕ → Option ℕ
 offset_at ids id member = at_pair ids.decorations.offsets id member

@@ -1,21 +1,35 @@
 -- The tables of ids beside the definitions.
-use Rattle.std.specs.Prelude.{◌≡◌, ℕ, ◌<◌, Bool, if◌then◌else◌, List, length, Option, None, Some}
+use Rattle.std.specs.Prelude.{◌≡◌, ℕ, ◌+◌, ◌<◌, Bool, if◌then◌else◌, List, length, Option, None, Some}
 use Rattle.std.specs.Option.{option_or}
 use Rattle.std.specs.Ordering.{nat_cmp}
 use Rattle.std.specs.BTreeMap.{BTreeMap, get}
 use Rattle.spirv_model.specs.declared.module.Inst.{Inst}
 use Rattle.spirv_model.specs.declared.module.Words.{Words}
-use Rattle.valid_model.specs.declared.meaning.Known.{Known}
-use Rattle.valid_model.specs.Definitions.{definition}
-use Rattle.valid_model.specs.Knowledge.{Knowledge}
-use Rattle.valid_model.specs.Meanings.{known_by}
+use Rattle.spirv_model.specs.Operands.{result}
+use Rattle.valid_model.specs.declared.meaning.IdFacts.{IdFacts}
+use Rattle.valid_model.specs.declared.meaning.Meaning.{Meaning}
+use Rattle.valid_model.specs.declared.type_fault.TypeFault.{TypeFault}
+use Rattle.valid_model.specs.Definitions.{definition, gives, twice_by}
+use Rattle.valid_model.specs.Knowledge.{Knowledge, constant_type, meaning_in}
+use Rattle.valid_model.specs.Meanings.{known_after, known_by}
 use Rattle.valid_model.specs.FirstFault.{rule_fault}
 use Rattle.spv_types.specs.declared.pass.Found.{Found}
-use Rattle.spv_types.specs.declared.pass.Pass.{Pass}
+use Rattle.spv_types.specs.declared.pass.FirstPass.{FirstPass}
 
 -- what the table has
-abbrev pub in_table : BTreeMap ℕ Known → Knowledge
+abbrev pub in_table : BTreeMap ℕ IdFacts → Knowledge
 in_table table id = get nat_cmp table id
+
+-- the meaning that the table has of an id, and of the type of a constant
+abbrev pub meaning_by : BTreeMap ℕ IdFacts → ℕ → Meaning
+meaning_by table id = meaning_in (in_table table id)
+
+abbrev pub constant_type_by : BTreeMap ℕ IdFacts → ℕ → Meaning
+constant_type_by table id = constant_type (in_table table) id
+
+-- the table has what is known after one more instruction
+abbrev pub AddsMeaning : Inst → BTreeMap ℕ IdFacts → BTreeMap ℕ IdFacts → Type 0
+AddsMeaning inst old new = (id : ℕ) → in_table new id ≡ known_after (in_table old) inst id
 
 -- the place that the table has of an id
 abbrev pub in_places : BTreeMap ℕ ℕ → ℕ → Option ℕ
@@ -29,6 +43,15 @@ first_place found here place = option_or found (if here then Some place else Non
 abbrev pub HasPlaces : BTreeMap ℕ ℕ → List Inst → Type 0
 HasPlaces places insts = (id : ℕ) → get nat_cmp places id ≡ definition insts id
 
+-- the table has the place of one more instruction's result, where it has none before
+abbrev pub AddsPlace : Inst → ℕ → BTreeMap ℕ ℕ → BTreeMap ℕ ℕ → Type 0
+AddsPlace inst place old new = (id : ℕ) → in_places new id ≡ first_place (in_places old id) (gives id inst) place
+
+-- the result of the instruction at the place, where the table has an earlier place of it
+abbrev pub IsResultTwice : BTreeMap ℕ ℕ → Inst → ℕ → Option ℕ → Type 0
+IsResultTwice places inst place twice =
+    (insts : List Inst) → HasPlaces places insts → twice ≡ twice_by insts place (result inst)
+
 -- the first fault at the first n places, with its place
 pub record IsFirst (words : Words) (n : ℕ) (found : Found) : Type 0 where
   pub within : found.place < n
@@ -39,7 +62,12 @@ abbrev pub FindsFirst : Words → ℕ → Option Found → Type 0
 FindsFirst words n None = (place : ℕ) → place < n → rule_fault words place ≡ None
 FindsFirst words n (Some found) = IsFirst words n found
 
+-- the first fault, after that of one more place
+abbrev pub AddsFault : Option Found → ℕ → Option TypeFault → Option Found → Type 0
+AddsFault old place fault new =
+    (words : Words) → FindsFirst words place old → fault ≡ rule_fault words place → FindsFirst words (place + 1) new
+
 -- what going over all instructions leaves
-pub record GoesOver (words : Words) (pass : Pass) : Type 0 where
+pub record IsFirstPass (words : Words) (pass : FirstPass) : Type 0 where
   pub known : (id : ℕ) → in_table pass.table id ≡ known_by words.insts id
   pub found : FindsFirst words (length words.insts) pass.found

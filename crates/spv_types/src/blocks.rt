@@ -2,19 +2,19 @@
 //! Capabilities").
 ghost use Rattle.std.specs.Prelude.{◌≡◌};
 ghost use Rattle.valid_model.specs.Blocks as spec;
-ghost use Rattle.spv_types.specs.FactsIn.{facts_in};
+ghost use Rattle.spv_types.specs.FactsIn.{facts_in, id_meaning};
 
 use crate::module_facts::{ModuleTables, decoration_of, is_decorated, offset_of};
-use crate::shapes::{is_array, is_integers, pointed_by};
+use crate::shapes::{is_array, is_integers, pointee_id};
 use spirv_model::decoration;
-use valid_model::{Known, Meaning, Shape};
+use valid_model::{IdFacts, Meaning, Shape};
 
 fn is_block_member(whole: &ModuleTables, ty: u32) -> bool
-    ensures { result ≡ spec.is_block_member (facts_in whole.now) ((facts_in whole.now).meaning ty) }
+    ensures { result ≡ spec.is_block_member (facts_in whole.now) (id_meaning whole.now ty) }
 {
     match whole.known.get(&ty) {
         Some(
-            Known {
+            IdFacts {
                 meaning: Meaning::Shape(Shape::Array { elem, .. }),
                 ..
             },
@@ -63,11 +63,11 @@ fn are_laid_out(whole: &ModuleTables, id: u32, types: &[u32]) -> bool
 
 /// Whether the type is a structure with Block whose members are laid out.
 fn is_block_type(whole: &ModuleTables, id: u32) -> bool
-    ensures { result ≡ spec.is_block_type (facts_in whole.now) id ((facts_in whole.now).meaning id) }
+    ensures { result ≡ spec.is_block_type (facts_in whole.now) id (id_meaning whole.now id) }
 {
     match whole.known.get(&id) {
         Some(
-            Known {
+            IdFacts {
                 meaning: Meaning::Shape(Shape::Struct { members }),
                 ..
             },
@@ -83,7 +83,7 @@ fn is_block_type(whole: &ModuleTables, id: u32) -> bool
 pub fn points_to_block(whole: &ModuleTables, ty: u32) -> bool
     ensures { result ≡ spec.points_to_block (facts_in whole.now) ty }
 {
-    match pointed_by(whole.known, ty) {
+    match pointee_id(whole.known, ty) {
         Some(to) => is_block_type(whole, to),
         None => false,
     }

@@ -1,17 +1,15 @@
 //! Which variables take a built-in (SPIR-V specification, section 3.21 "BuiltIn").
 ghost use Rattle.std.specs.Prelude.{◌≡◌};
 ghost use Rattle.valid_model.specs.BuiltIns as spec;
-ghost use Rattle.valid_model.specs.ModuleFacts as module_facts;
-ghost use Rattle.valid_model.specs.Shapes as shapes;
-ghost use Rattle.spv_types.specs.FactsIn.{facts_in};
+ghost use Rattle.spv_types.specs.FactsIn.{facts_in, id_meaning, variable_takes};
 
 use crate::module_facts::{ModuleTables, is_vertex};
 use crate::shapes::{holds_bool, holds_integer, holds_position};
 use spirv_model::{builtin, storage_class};
-use valid_model::{Known, Meaning};
+use valid_model::{IdFacts, Meaning};
 
 fn is_built_in(whole: &ModuleTables, number: u32, class: u32, ty: u32) -> bool
-    ensures { result ≡ spec.is_built_in number (module_facts.is_vertex (facts_in whole.now)) class (shapes.held_type (facts_in whole.now) ty) }
+    ensures { result ≡ variable_takes whole.now number class ty }
 {
     let vertex = is_vertex(whole);
     match number {
@@ -29,11 +27,11 @@ fn is_built_in(whole: &ModuleTables, number: u32, class: u32, ty: u32) -> bool
 
 /// Whether the id is a variable that takes this built-in.
 pub fn takes_built_in(whole: &ModuleTables, number: u32, id: u32) -> bool
-    ensures { result ≡ spec.takes_built_in (facts_in whole.now) number ((facts_in whole.now).meaning id) }
+    ensures { result ≡ spec.takes_built_in (facts_in whole.now) number (id_meaning whole.now id) }
 {
     match whole.known.get(&id) {
         Some(
-            Known {
+            IdFacts {
                 meaning: Meaning::Variable { ty, class },
                 ..
             },

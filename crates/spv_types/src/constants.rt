@@ -1,21 +1,19 @@
 ghost use Rattle.std.specs.Prelude.{◌≡◌};
-ghost use Rattle.std.specs.List.{list_all, zip};
 ghost use Rattle.valid_model.specs.Constants as spec;
-ghost use Rattle.valid_model.specs.Knowledge as knowledge;
-ghost use Rattle.spv_types.specs.Tables.{in_table};
+ghost use Rattle.spv_types.specs.Tables.{constant_type_by, in_table, meaning_by};
 
 use crate::knowledge::{Table, is_bool, is_constant_of, is_data, is_integer, is_truth};
 use crate::meanings::is_constant;
 use crate::operations::operation_fits;
 use spirv_model::{Inst, op};
-use valid_model::{Known, Meaning, Shape};
+use valid_model::{IdFacts, Meaning, Shape};
 
 fn is_integer_like(table: &Table, signed: bool, id: u32) -> bool
-    ensures { result ≡ spec.is_integer_like signed (knowledge.meaning_in (in_table table.now id)) }
+    ensures { result ≡ spec.is_integer_like signed (meaning_by table.now id) }
 {
     match table.get(&id) {
         Some(
-            Known {
+            IdFacts {
                 meaning: Meaning::Shape(Shape::Int { signed: own }),
                 ..
             },
@@ -26,11 +24,11 @@ fn is_integer_like(table: &Table, signed: bool, id: u32) -> bool
 
 /// Whether the id is a constant whose type is an integer of this signedness.
 fn is_word_like(table: &Table, signed: bool, id: u32) -> bool
-    ensures { result ≡ spec.is_integer_like signed (knowledge.constant_type (in_table table.now) id) }
+    ensures { result ≡ spec.is_integer_like signed (constant_type_by table.now id) }
 {
     match table.get(&id) {
         Some(
-            Known {
+            IdFacts {
                 meaning: Meaning::Constant { ty },
                 ..
             },
@@ -40,25 +38,25 @@ fn is_word_like(table: &Table, signed: bool, id: u32) -> bool
 }
 
 fn are_truths(table: &Table, parts: &[u32]) -> bool
-    ensures { result ≡ list_all (λ part. knowledge.is_bool (knowledge.constant_type (in_table table.now) part)) parts.now }
+    ensures { result ≡ spec.are_truths (in_table table.now) parts.now }
 {
     parts.iter().all(|part| is_truth(table, *part))
 }
 
 fn are_words_like(table: &Table, signed: bool, parts: &[u32]) -> bool
-    ensures { result ≡ list_all (λ part. spec.is_integer_like signed (knowledge.constant_type (in_table table.now) part)) parts.now }
+    ensures { result ≡ spec.are_words_like (in_table table.now) signed parts.now }
 {
     parts.iter().all(|part| is_word_like(table, signed, *part))
 }
 
 fn are_constants_of(table: &Table, ty: u32, parts: &[u32]) -> bool
-    ensures { result ≡ list_all (λ part. knowledge.is_constant_of ty (knowledge.meaning_in (in_table table.now part))) parts.now }
+    ensures { result ≡ spec.are_constants_of (in_table table.now) ty parts.now }
 {
     parts.iter().all(|part| is_constant_of(table, ty, *part))
 }
 
 fn are_constants_of_each(table: &Table, types: &[u32], parts: &[u32]) -> bool
-    ensures { result ≡ list_all (λ pair. knowledge.is_constant_of pair.0 (knowledge.meaning_in (in_table table.now pair.1))) (zip types.now parts.now) }
+    ensures { result ≡ spec.are_constants_of_each (in_table table.now) types.now parts.now }
 {
     types
         .iter()
@@ -88,11 +86,11 @@ fn are_parts(table: &Table, shape: &Shape, parts: &[u32]) -> bool
 }
 
 fn composite_fits(table: &Table, ty: u32, parts: &[u32]) -> bool
-    ensures { result ≡ spec.composite_fits (in_table table.now) (knowledge.meaning_in (in_table table.now ty)) parts.now }
+    ensures { result ≡ spec.composite_constant_fits (in_table table.now) ty parts.now }
 {
     match table.get(&ty) {
         Some(
-            Known {
+            IdFacts {
                 meaning: Meaning::Shape(shape),
                 ..
             },

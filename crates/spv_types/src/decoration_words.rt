@@ -1,10 +1,7 @@
 //! What decorations say of ids and of members.
-ghost use Rattle.std.specs.Prelude.{◌≡◌, ℕ, IfOk, OnOk};
-ghost use Rattle.std.specs.Option.{option_or};
-ghost use Rattle.spirv_model.specs.Operands as operands;
+ghost use Rattle.std.specs.Prelude.{◌≡◌, IfOk, OnOk};
 ghost use Rattle.valid_model.specs.DecorationWords as spec;
-ghost use Rattle.spv_types.specs.Decorated.{AreDecorationsOf};
-ghost use Rattle.spv_types.specs.Pairs.{at_pair, said};
+ghost use Rattle.spv_types.specs.Decorated.{AreDecorationsOf, HasOffsets, HasWords, KeepsOffset, KeepsWord};
 
 use crate::pairs::{Pairs, keep_first};
 use spirv_model::{Inst, decoration, op};
@@ -45,7 +42,7 @@ pub fn decorations_of(alloc: Global, insts: &[Inst]) -> Result<Decorations, Allo
 
 #[tactic(auto, unfolding(valid_model::specs::DecorationWords::decoration_of))]
 fn words_of(alloc: Global, insts: &[Inst]) -> Result<Pairs, AllocError>
-    ensures { IfOk result (λ words. (id decoration : ℕ) → at_pair words id decoration ≡ spec.decoration_of insts.now id decoration) }
+    ensures { IfOk result (HasWords insts.now) }
 {
     let mut words = BTreeMap::new(alloc);
     for inst in insts {
@@ -55,8 +52,7 @@ fn words_of(alloc: Global, insts: &[Inst]) -> Result<Pairs, AllocError>
 }
 
 fn add_word(map: &mut Pairs, inst: &Inst) -> Result<(), AllocError>
-    ensures { OnOk result ((id decoration : ℕ) → at_pair map.new id decoration
-        ≡ option_or (at_pair map.old id decoration) (said (spec.decorates id decoration inst.now) (operands.word_at 2 inst.now))) }
+    ensures { OnOk result (KeepsWord inst.now map.old map.new) }
 {
     let words = inst.words.as_slice();
     if inst.op != op::DECORATE || !is_listed(inst.word(1), words.len()) {
@@ -67,7 +63,7 @@ fn add_word(map: &mut Pairs, inst: &Inst) -> Result<(), AllocError>
 
 #[tactic(auto, unfolding(valid_model::specs::DecorationWords::offset_of))]
 fn offsets_of(alloc: Global, insts: &[Inst]) -> Result<Pairs, AllocError>
-    ensures { IfOk result (λ offsets. (id member : ℕ) → at_pair offsets id member ≡ spec.offset_of insts.now id member) }
+    ensures { IfOk result (HasOffsets insts.now) }
 {
     let mut offsets = BTreeMap::new(alloc);
     for inst in insts {
@@ -77,8 +73,7 @@ fn offsets_of(alloc: Global, insts: &[Inst]) -> Result<Pairs, AllocError>
 }
 
 fn add_offset(map: &mut Pairs, inst: &Inst) -> Result<(), AllocError>
-    ensures { OnOk result ((id member : ℕ) → at_pair map.new id member
-        ≡ option_or (at_pair map.old id member) (said (spec.places_member id member inst.now) (operands.word_at 3 inst.now))) }
+    ensures { OnOk result (KeepsOffset inst.now map.old map.new) }
 {
     let words = inst.words.as_slice();
     if inst.op != op::MEMBER_DECORATE || inst.word(2) != decoration::OFFSET || words.len() != 4 {

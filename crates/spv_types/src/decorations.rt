@@ -1,12 +1,12 @@
 //! Which decorations are allowed (SPIR-V specification, section 3.20 "Decoration"), and the first place where they aren't.
 ghost use Rattle.std.specs.Prelude.{◌≡◌, ◌≤◌, length, IfOk};
 ghost use Rattle.valid_model.specs.Decorations as spec;
-ghost use Rattle.spv_types.specs.FactsIn.{facts_in, before_in};
+ghost use Rattle.spv_types.specs.FactsIn.{bad_decorate_in, before_in, breaks_decorations_in};
 ghost use Rattle.spv_types.specs.FirstBad.{IsWhole, FindsFirstBad};
 
 use crate::built_ins::takes_built_in;
 use crate::decoration_words::is_listed;
-use crate::earlier_facts::{EarlierTables, add_inst, nothing_seen};
+use crate::earlier_facts::{EarlierTables, add_inst, no_earlier_facts};
 use crate::module_facts::{ModuleTables, is_spec_constant};
 use crate::variables::bad_variable;
 use limits::{DESCRIPTOR_BINDINGS, DESCRIPTOR_SETS, LOCATIONS};
@@ -41,7 +41,7 @@ pub fn bad_decorate(
     word: u32,
     words: usize,
 ) -> bool
-    ensures { result ≡ spec.bad_decorate (facts_in whole.now) (before_in seen.now) id decoration word words }
+    ensures { result ≡ bad_decorate_in whole.now seen.now id decoration word words }
 {
     !is_listed(decoration, words)
         || repeats(seen, id, decoration, word)
@@ -66,7 +66,7 @@ pub fn bad_member_decorate(
 
 #[tactic(auto, unfolding(valid_model::specs::Decorations::breaks_decorations))]
 fn breaks_decorations(whole: &ModuleTables, seen: &EarlierTables, inst: &Inst) -> bool
-    ensures { result ≡ spec.breaks_decorations (facts_in whole.now) (before_in seen.now) inst.now }
+    ensures { result ≡ breaks_decorations_in whole.now seen.now inst.now }
 {
     let words = inst.words.as_slice();
     let (a, b, c) = (inst.word(0), inst.word(1), inst.word(2));
@@ -88,7 +88,7 @@ pub fn first_bad_decoration(
     requires within { limit ≤ length whole.now.insts.now }
     ensures { IfOk result (FindsFirstBad whole.now.insts.now limit) }
 {
-    let mut seen = nothing_seen(alloc);
+    let mut seen = no_earlier_facts(alloc);
     for place in 0..limit {
         let inst = &whole.insts[place];
         if breaks_decorations(whole, &seen, inst) {

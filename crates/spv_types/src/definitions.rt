@@ -1,9 +1,7 @@
 //! Which instruction defines an id, and whether ids stand below the bound.
-ghost use Rattle.std.specs.Prelude.{◌≡◌, ℕ, ◌<◌, ◌^◌, List, length, IfOk, OnOk};
-ghost use Rattle.spirv_model.specs.declared.module.Inst.{Inst};
-ghost use Rattle.spirv_model.specs.Operands as operands;
+ghost use Rattle.std.specs.Prelude.{◌≡◌, ◌<◌, ◌^◌, length, IfOk, OnOk};
 ghost use Rattle.valid_model.specs.Definitions as spec;
-ghost use Rattle.spv_types.specs.Tables.{in_places, first_place, HasPlaces};
+ghost use Rattle.spv_types.specs.Tables.{AddsPlace, HasPlaces, IsResultTwice};
 
 use spirv_model::Inst;
 use spv_words::{ids_are_below, result};
@@ -13,6 +11,7 @@ use std::collections::BTreeMap;
 /// The place of each id's definition.
 pub type Places = BTreeMap<u32, u32>;
 
+/// The instruction at this place.
 pub fn inst_at(insts: &[Inst], place: usize) -> &Inst
     requires { place < length insts.now }
     ensures { result.now ≡ spec.inst_at insts.now place }
@@ -33,7 +32,7 @@ pub fn definitions(alloc: Global, insts: &[Inst]) -> Result<Places, AllocError>
 }
 
 fn define_place(places: &mut Places, inst: &Inst, place: u32) -> Result<(), AllocError>
-    ensures { OnOk result ((id : ℕ) → in_places places.new id ≡ first_place (in_places places.old id) (spec.gives id inst.now) place) }
+    ensures { OnOk result (AddsPlace inst.now place places.old places.new) }
 {
     let Some(id) = result(inst) else {
         return Ok(());
@@ -46,7 +45,7 @@ fn define_place(places: &mut Places, inst: &Inst, place: u32) -> Result<(), Allo
 
 /// The id of the instruction's result, where an earlier instruction has that result.
 pub fn id_twice(places: &Places, inst: &Inst, place: usize) -> Option<u32>
-    ensures { (insts : List Inst) → HasPlaces places.now insts → result ≡ spec.twice_by insts place (operands.result inst.now) }
+    ensures { IsResultTwice places.now inst.now place result }
 {
     let id = result(inst)?;
     let at = places.get(&id)?;
@@ -57,6 +56,7 @@ pub fn id_twice(places: &Places, inst: &Inst, place: usize) -> Option<u32>
     }
 }
 
+/// Whether an id of the instruction is 0 or isn't below the bound.
 #[tactic(auto, unfolding(valid_model::specs::Definitions::id_out_of_bound))]
 pub fn id_out_of_bound(bound: u32, inst: &Inst) -> bool
     ensures { result ≡ spec.id_out_of_bound bound inst.now }

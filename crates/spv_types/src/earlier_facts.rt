@@ -1,14 +1,10 @@
 //! What stands before a place, as far as the rules of decorations ask.
-ghost use Rattle.std.specs.Prelude.{◌≡◌, ℕ, ◌||◌, [], OnOk};
-ghost use Rattle.std.specs.Ordering.{nat_cmp};
-ghost use Rattle.std.specs.BTreeSet.{contains};
-ghost use Rattle.valid_model.specs.DecorationWords as decoration_words;
+ghost use Rattle.std.specs.Prelude.{◌≡◌, [], OnOk};
 ghost use Rattle.valid_model.specs.EarlierFacts as spec;
 ghost use Rattle.valid_model.specs.ModuleFacts.{ModuleFacts};
 ghost use Rattle.spirv_model.specs.declared.storage_class.TheConstants as storage_class;
 ghost use Rattle.spv_types.specs.FactsIn.{facts_in, before_in};
-ghost use Rattle.spv_types.specs.Pairs.{has_pair};
-ghost use Rattle.spv_types.specs.Standing.{Adds, StandsFor};
+ghost use Rattle.spv_types.specs.Standing.{AddsDecoration, AddsInst, AddsOffset, AddsSlot, AddsSpecId, StandsFor};
 
 use crate::decoration_words::is_listed;
 use crate::module_facts::{ModuleTables, decoration_of, has_position};
@@ -29,7 +25,8 @@ pub struct EarlierTables {
     pub position: bool,
 }
 
-pub fn nothing_seen(alloc: Global) -> EarlierTables
+/// What stands before the first place.
+pub fn no_earlier_facts(alloc: Global) -> EarlierTables
     ensures { (facts : ModuleFacts) → StandsFor facts [] (before_in result) }
 {
     EarlierTables {
@@ -48,7 +45,7 @@ pub fn add_inst(
     whole: &ModuleTables,
     inst: &Inst,
 ) -> Result<(), AllocError>
-    ensures { OnOk result (Adds (facts_in whole.now) inst.now (before_in seen.old) (before_in seen.new)) }
+    ensures { OnOk result (AddsInst whole.now inst.now seen.old seen.new) }
 {
     add_decoration(&mut seen.decorations, inst)?;
     add_offset(&mut seen.offsets, inst)?;
@@ -60,8 +57,7 @@ pub fn add_inst(
 }
 
 fn add_decoration(decorations: &mut PairSet, inst: &Inst) -> Result<(), AllocError>
-    ensures { OnOk result ((id decoration : ℕ) → has_pair decorations.new id decoration
-        ≡ (has_pair decorations.old id decoration || decoration_words.decorates id decoration inst.now)) }
+    ensures { OnOk result (AddsDecoration inst.now decorations.old decorations.new) }
 {
     let words = inst.words.as_slice();
     if inst.op != op::DECORATE || !is_listed(inst.word(1), words.len()) {
@@ -71,8 +67,7 @@ fn add_decoration(decorations: &mut PairSet, inst: &Inst) -> Result<(), AllocErr
 }
 
 fn add_offset(offsets: &mut PairSet, inst: &Inst) -> Result<(), AllocError>
-    ensures { OnOk result ((id member : ℕ) → has_pair offsets.new id member
-        ≡ (has_pair offsets.old id member || decoration_words.places_member id member inst.now)) }
+    ensures { OnOk result (AddsOffset inst.now offsets.old offsets.new) }
 {
     let words = inst.words.as_slice();
     if inst.op != op::MEMBER_DECORATE || inst.word(2) != decoration::OFFSET || words.len() != 4 {
@@ -82,8 +77,7 @@ fn add_offset(offsets: &mut PairSet, inst: &Inst) -> Result<(), AllocError>
 }
 
 fn add_spec_id(spec_ids: &mut BTreeSet<u32>, inst: &Inst) -> Result<(), AllocError>
-    ensures { OnOk result ((number : ℕ) → contains nat_cmp spec_ids.new number
-        ≡ (contains nat_cmp spec_ids.old number || spec.has_spec_id number inst.now)) }
+    ensures { OnOk result (AddsSpecId inst.now spec_ids.old spec_ids.new) }
 {
     let words = inst.words.as_slice();
     if inst.op != op::DECORATE || inst.word(1) != decoration::SPEC_ID {
@@ -94,8 +88,7 @@ fn add_spec_id(spec_ids: &mut BTreeSet<u32>, inst: &Inst) -> Result<(), AllocErr
 }
 
 fn add_slot(slots: &mut PairSet, whole: &ModuleTables, inst: &Inst) -> Result<(), AllocError>
-    ensures { OnOk result ((set binding : ℕ) → has_pair slots.new set binding
-        ≡ (has_pair slots.old set binding || spec.has_slot (facts_in whole.now) set binding inst.now)) }
+    ensures { OnOk result (AddsSlot whole.now inst.now slots.old slots.new) }
 {
     let words = inst.words.as_slice();
     if inst.op != op::VARIABLE || inst.word(2) != storage_class::UNIFORM {

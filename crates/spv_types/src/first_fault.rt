@@ -4,7 +4,7 @@ ghost use Rattle.valid_model.specs.FirstFault as spec;
 ghost use Rattle.valid_model.specs.Meanings as meanings;
 ghost use Rattle.spv_types.specs.Decorated.{AreDecorationsOf};
 ghost use Rattle.spv_types.specs.FirstBad.{bad_else};
-ghost use Rattle.spv_types.specs.Tables.{in_table, HasPlaces, GoesOver};
+ghost use Rattle.spv_types.specs.Tables.{in_table, HasPlaces, IsFirstPass};
 
 use crate::constants::breaks_constants;
 use crate::decoration_words::Decorations;
@@ -12,7 +12,7 @@ use crate::decorations::first_bad_decoration;
 use crate::definitions::{Places, id_out_of_bound, id_twice, inst_at};
 use crate::knowledge::Table;
 use crate::module_facts::{ModuleTables, model_of};
-use crate::pass::Pass;
+use crate::pass::FirstPass;
 use crate::types::{breaks_types, has_later_type};
 use spirv_model::{Inst, Words};
 use std::alloc::{AllocError, Global};
@@ -99,12 +99,12 @@ pub fn first_fault(
     alloc: Global,
     words: &Words,
     places: &Places,
-    pass: &Pass,
+    pass: &FirstPass,
     decorations: &Decorations,
 ) -> Result<Option<TypeFault>, AllocError>
     requires few { length words.now.insts < 2 ^ 32 }
     requires defined { HasPlaces places.now words.now.insts }
-    requires over { GoesOver words.now pass.now }
+    requires over { IsFirstPass words.now pass.now }
     requires decorations { AreDecorationsOf words.now.insts decorations.now }
     ensures { IfOk result (λ fault. fault ≡ spec.type_fault words.now) }
 {

@@ -1,7 +1,6 @@
 ghost use Rattle.std.specs.Prelude.{◌≡◌, ◌<◌, ◌^◌, length};
-ghost use Rattle.valid_model.specs.DecorationWords.{both};
-ghost use Rattle.spirv_model.specs.declared.decoration.TheConstants.{SPEC_ID, LOCATION, BUILT_IN, DESCRIPTOR_SET, BINDING, ARRAY_STRIDE};
-ghost use Rattle.spv_types.specs.Answers.{AnswersIds, meaning_at, decoration_at, offset_at};
+ghost use Rattle.spirv_model.specs.declared.decoration.TheConstants.{SPEC_ID, LOCATION, BUILT_IN, ARRAY_STRIDE};
+ghost use Rattle.spv_types.specs.Answers.{AnswersIds, meaning_at, decoration_at, offset_at, slot_at};
 
 use crate::decoration_words::{Decorations, decorations_of};
 use crate::definitions::definitions;
@@ -10,7 +9,7 @@ use crate::knowledge::Table;
 use crate::pass::go_over;
 use spirv_model::{Words, decoration};
 use std::alloc::Global;
-use valid_model::{Known, Meaning, TypeFault};
+use valid_model::{IdFacts, Meaning, TypeFault};
 
 /// What the ids of a module mean, and what decorations say of them.
 #[derive(Debug, Drop)]
@@ -27,7 +26,7 @@ impl Ids {
         ensures { result.now ≡ meaning_at self.now id }
     {
         match self.table.get(&id) {
-            Some(Known { meaning, .. }) => meaning,
+            Some(IdFacts { meaning, .. }) => meaning,
             None => &self.absent,
         }
     }
@@ -55,7 +54,7 @@ impl Ids {
 
     /// The descriptor set and the binding of an id that has both.
     pub fn slot(&self, id: u32) -> Option<(u32, u32)>
-        ensures { result ≡ both (decoration_at self.now id DESCRIPTOR_SET) (decoration_at self.now id BINDING) }
+        ensures { result ≡ slot_at self.now id }
     {
         let set = self.decoration(id, decoration::DESCRIPTOR_SET)?;
         let binding = self.decoration(id, decoration::BINDING)?;

@@ -1,45 +1,48 @@
 //! What is known of the ids of a module, and what that says of types and of constants.
 ghost use Rattle.std.specs.Prelude.{◌≡◌};
 ghost use Rattle.valid_model.specs.Knowledge as spec;
-ghost use Rattle.spv_types.specs.Tables.{in_table};
+ghost use Rattle.spv_types.specs.Tables.{constant_type_by, in_table, meaning_by};
 
 use spirv_model::storage_class;
 use std::collections::BTreeMap;
-use valid_model::{Known, Meaning, Shape};
+use valid_model::{IdFacts, Meaning, Shape};
 
 /// What is known of each id that is defined so far.
-pub type Table = BTreeMap<u32, Known>;
+pub type Table = BTreeMap<u32, IdFacts>;
 
+/// Whether the id is OpTypeVoid.
 pub fn is_void(table: &Table, id: u32) -> bool
-    ensures { result ≡ spec.is_void (spec.meaning_in (in_table table.now id)) }
+    ensures { result ≡ spec.is_void (meaning_by table.now id) }
 {
     matches!(
         table.get(&id),
-        Some(Known {
+        Some(IdFacts {
             meaning: Meaning::Shape(Shape::Void),
             ..
         })
     )
 }
 
+/// Whether the id is OpTypeBool.
 pub fn is_bool(table: &Table, id: u32) -> bool
-    ensures { result ≡ spec.is_bool (spec.meaning_in (in_table table.now id)) }
+    ensures { result ≡ spec.is_bool (meaning_by table.now id) }
 {
     matches!(
         table.get(&id),
-        Some(Known {
+        Some(IdFacts {
             meaning: Meaning::Shape(Shape::Bool),
             ..
         })
     )
 }
 
+/// Whether the id is the type of an integer.
 pub fn is_integer(table: &Table, id: u32) -> bool
-    ensures { result ≡ spec.is_integer (spec.meaning_in (in_table table.now id)) }
+    ensures { result ≡ spec.is_integer (meaning_by table.now id) }
 {
     matches!(
         table.get(&id),
-        Some(Known {
+        Some(IdFacts {
             meaning: Meaning::Shape(Shape::Int { .. }),
             ..
         })
@@ -52,12 +55,13 @@ fn is_data_shape(shape: &Shape) -> bool
     !matches!(shape, Shape::Void | Shape::Pointer { .. } | Shape::Function)
 }
 
+/// Whether the id is a type that arrays, structures and variables may hold.
 pub fn is_data(table: &Table, id: u32) -> bool
-    ensures { result ≡ spec.is_data (spec.meaning_in (in_table table.now id)) }
+    ensures { result ≡ spec.is_data (meaning_by table.now id) }
 {
     match table.get(&id) {
         Some(
-            Known {
+            IdFacts {
                 meaning: Meaning::Shape(shape),
                 ..
             },
@@ -80,6 +84,7 @@ pub fn length(table: &Table, id: u32) -> u32
     table.get(&id).map_or(0, |known| known.length)
 }
 
+/// Whether pointers and variables may have this storage class.
 pub fn is_storage_class(class: u32) -> bool
     ensures { result ≡ spec.is_storage_class class }
 {
@@ -91,20 +96,22 @@ pub fn is_storage_class(class: u32) -> bool
         || class == storage_class::PUSH_CONSTANT
 }
 
-pub fn a_type(shape: Shape, size: u32) -> Known
+/// A type of this shape and so many words.
+pub fn a_type(shape: Shape, size: u32) -> IdFacts
     ensures { result ≡ spec.a_type shape size }
 {
-    Known {
+    IdFacts {
         meaning: Meaning::Shape(shape),
         size,
         length: 0,
     }
 }
 
-pub fn means(meaning: Meaning) -> Known
+/// An id with this meaning that is no type and no length of an array.
+pub fn means(meaning: Meaning) -> IdFacts
     ensures { result ≡ spec.means meaning }
 {
-    Known {
+    IdFacts {
         meaning,
         size: 0,
         length: 0,
@@ -113,11 +120,11 @@ pub fn means(meaning: Meaning) -> Known
 
 /// Whether the id is a constant of this type.
 pub fn is_constant_of(table: &Table, ty: u32, id: u32) -> bool
-    ensures { result ≡ spec.is_constant_of ty (spec.meaning_in (in_table table.now id)) }
+    ensures { result ≡ spec.is_constant_of ty (meaning_by table.now id) }
 {
     match table.get(&id) {
         Some(
-            Known {
+            IdFacts {
                 meaning: Meaning::Constant { ty: own },
                 ..
             },
@@ -128,11 +135,11 @@ pub fn is_constant_of(table: &Table, ty: u32, id: u32) -> bool
 
 /// Whether the id is a constant whose type is OpTypeBool.
 pub fn is_truth(table: &Table, id: u32) -> bool
-    ensures { result ≡ spec.is_bool (spec.constant_type (in_table table.now) id) }
+    ensures { result ≡ spec.is_bool (constant_type_by table.now id) }
 {
     match table.get(&id) {
         Some(
-            Known {
+            IdFacts {
                 meaning: Meaning::Constant { ty },
                 ..
             },
@@ -143,11 +150,11 @@ pub fn is_truth(table: &Table, id: u32) -> bool
 
 /// Whether the id is a constant whose type is an integer.
 pub fn is_word(table: &Table, id: u32) -> bool
-    ensures { result ≡ spec.is_integer (spec.constant_type (in_table table.now) id) }
+    ensures { result ≡ spec.is_integer (constant_type_by table.now id) }
 {
     match table.get(&id) {
         Some(
-            Known {
+            IdFacts {
                 meaning: Meaning::Constant { ty },
                 ..
             },

@@ -9,8 +9,9 @@ use spirv_model::class::Class;
 use spirv_model::{Inst, op};
 use spv_words::class_of;
 use std::alloc::{AllocError, Global};
-use valid_model::{Known, Meaning};
+use valid_model::{IdFacts, Meaning};
 
+/// Whether an instruction with this opcode makes a constant or a specialization constant.
 pub fn is_constant(opcode: u16) -> bool
     ensures { result ≡ spec.is_constant opcode }
 {
@@ -20,11 +21,11 @@ pub fn is_constant(opcode: u16) -> bool
     )
 }
 
-fn constant_known(table: &Table, opcode: u16, ty: u32, word: u32) -> Known
+fn constant_known(table: &Table, opcode: u16, ty: u32, word: u32) -> IdFacts
     ensures { result ≡ spec.constant_known (in_table table.now) opcode ty word }
 {
     let length = array_length(table, opcode, ty, word);
-    Known {
+    IdFacts {
         meaning: Meaning::Constant { ty },
         size: 0,
         length,
@@ -54,7 +55,7 @@ fn other_meaning(opcode: u16, ty: u32) -> Meaning
 
 /// What is known of the result of an instruction.
 #[tactic(auto, unfolding(valid_model::specs::Meanings::known_of))]
-pub fn known_of(alloc: Global, table: &Table, inst: &Inst) -> Result<Known, AllocError>
+pub fn known_of(alloc: Global, table: &Table, inst: &Inst) -> Result<IdFacts, AllocError>
     ensures { IfOk result (λ known. known ≡ spec.known_of (in_table table.now) inst.now) }
 {
     if is_type(inst.op) {

@@ -32,6 +32,7 @@ pub fn decoration_of(whole: &ModuleTables, id: u32, decoration: u32) -> Option<u
         .copied()
 }
 
+/// Whether the id has this decoration.
 pub fn is_decorated(whole: &ModuleTables, id: u32, decoration: u32) -> bool
     ensures { result ≡ spec.is_decorated (facts_in whole.now) id decoration }
 {
@@ -77,6 +78,7 @@ pub fn is_vertex(whole: &ModuleTables) -> bool
     whole.model == Some(execution_model::VERTEX)
 }
 
+/// Whether the id has the built-in Position.
 pub fn has_position(whole: &ModuleTables, id: u32) -> bool
     ensures { result ≡ spec.has_position (facts_in whole.now) id }
 {

@@ -1,6 +1,5 @@
 //! The operations of OpSpecConstantOp (SPIR-V specification, section 3.49.7 "Constant-Creation Instructions").
 ghost use Rattle.std.specs.Prelude.{◌≡◌};
-ghost use Rattle.valid_model.specs.Knowledge as knowledge;
 ghost use Rattle.valid_model.specs.Operations as spec;
 ghost use Rattle.spv_types.specs.Tables.{in_table};
 
@@ -9,7 +8,7 @@ use spirv_model::class::{Class, ScalarClass};
 use spv_words::class_of_operand;
 
 fn unary_fits(table: &Table, ty: u32, class: Option<Class>, a: u32) -> bool
-    ensures { result ≡ spec.unary_fits class (knowledge.meaning_in (in_table table.now ty)) (knowledge.constant_type (in_table table.now) a) }
+    ensures { result ≡ spec.unary_operation_fits (in_table table.now) ty class a }
 {
     match class {
         Some(Class::Scalar(ScalarClass::WordFromWord)) => is_integer(table, ty)
@@ -21,7 +20,7 @@ fn unary_fits(table: &Table, ty: u32, class: Option<Class>, a: u32) -> bool
 }
 
 fn binary_fits(table: &Table, ty: u32, class: Option<Class>, a: u32, b: u32) -> bool
-    ensures { result ≡ spec.binary_fits class (knowledge.meaning_in (in_table table.now ty)) (knowledge.constant_type (in_table table.now) a) (knowledge.constant_type (in_table table.now) b) }
+    ensures { result ≡ spec.binary_operation_fits (in_table table.now) ty class a b }
 {
     match class {
         Some(Class::Scalar(ScalarClass::WordFromWords)) => {
@@ -52,6 +51,7 @@ fn select_fits(table: &Table, ty: u32, condition: u32, a: u32, b: u32) -> bool
         && is_constant_of(table, ty, b)
 }
 
+/// Whether the operation with this opcode fits its operands and the type of its result.
 pub fn operation_fits(table: &Table, ty: u32, opcode: u32, operands: &[u32]) -> bool
     ensures { result ≡ spec.operation_fits (in_table table.now) ty opcode operands.now }
 {

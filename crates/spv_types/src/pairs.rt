@@ -1,7 +1,6 @@
 //! Maps and sets whose keys are pairs of numbers.
-ghost use Rattle.std.specs.Prelude.{◌≡◌, ℕ, ◌==◌, ◌&&◌, ◌||◌, OnOk};
-ghost use Rattle.std.specs.Option.{option_or};
-ghost use Rattle.spv_types.specs.Pairs.{at_pair, has_pair, said};
+ghost use Rattle.std.specs.Prelude.{OnOk};
+ghost use Rattle.spv_types.specs.Pairs.{AddsPair, KeepsFirst};
 
 use std::alloc::AllocError;
 use std::collections::{BTreeMap, BTreeSet};
@@ -9,11 +8,12 @@ use std::collections::{BTreeMap, BTreeSet};
 /// A word by an id and a number.
 pub type Pairs = BTreeMap<(u32, usize), u32>;
 
+/// Pairs of an id and a number, or of two numbers.
 pub type PairSet = BTreeSet<(u32, u32)>;
 
 /// Keeps the word, where there is none yet.
 pub fn keep_first(map: &mut Pairs, a: u32, b: usize, word: u32) -> Result<(), AllocError>
-    ensures { OnOk result ((c d : ℕ) → at_pair map.new c d ≡ option_or (at_pair map.old c d) (said ((a == c) && (b == d)) word)) }
+    ensures { OnOk result (KeepsFirst a b word map.old map.new) }
 {
     if !map.contains_key(&(a, b)) {
         map.insert((a, b), word)?;
@@ -21,8 +21,9 @@ pub fn keep_first(map: &mut Pairs, a: u32, b: usize, word: u32) -> Result<(), Al
     Ok(())
 }
 
+/// Adds the pair.
 pub fn add_pair(set: &mut PairSet, a: u32, b: u32) -> Result<(), AllocError>
-    ensures { OnOk result ((c d : ℕ) → has_pair set.new c d ≡ (has_pair set.old c d || ((a == c) && (b == d)))) }
+    ensures { OnOk result (AddsPair a b set.old set.new) }
 {
     set.insert((a, b))?;
     Ok(())

@@ -1,9 +1,6 @@
 //! One pass over the instructions: what is known of each id, and the first fault.
-ghost use Rattle.std.specs.Prelude.{◌≡◌, ℕ, ◌+◌, ◌<◌, ◌^◌, length, IfOk, OnOk};
-ghost use Rattle.spirv_model.specs.declared.module.Words.{Words};
-ghost use Rattle.valid_model.specs.FirstFault as fault_rules;
-ghost use Rattle.valid_model.specs.Meanings as meanings;
-ghost use Rattle.spv_types.specs.Tables.{in_table, HasPlaces, FindsFirst, GoesOver};
+ghost use Rattle.std.specs.Prelude.{◌<◌, ◌^◌, length, IfOk, OnOk};
+ghost use Rattle.spv_types.specs.Tables.{AddsFault, AddsMeaning, HasPlaces, IsFirstPass};
 
 use crate::definitions::{Places, inst_at};
 use crate::first_fault::fault_at;
@@ -24,7 +21,7 @@ pub struct Found {
 
 /// What is known of each id, and the first fault of ids, types and constants.
 #[derive(Debug, Drop)]
-pub struct Pass {
+pub struct FirstPass {
     pub table: Table,
     pub found: Option<Found>,
 }
@@ -32,7 +29,7 @@ pub struct Pass {
 /// More is known after one more instruction.
 #[tactic(auto, unfolding(valid_model::specs::Meanings::known_after))]
 fn define(alloc: Global, table: &mut Table, inst: &Inst) -> Result<(), AllocError>
-    ensures { OnOk result ((id : ℕ) → in_table table.new id ≡ meanings.known_after (in_table table.old) inst.now id) }
+    ensures { OnOk result (AddsMeaning inst.now table.old table.new) }
 {
     let Some(id) = result(inst) else {
         return Ok(());
@@ -46,7 +43,7 @@ fn define(alloc: Global, table: &mut Table, inst: &Inst) -> Result<(), AllocErro
 
 /// The fault that was found, else the one at this place.
 fn earlier(found: Option<Found>, place: usize, fault: Option<TypeFault>) -> Option<Found>
-    ensures { (words : Words) → FindsFirst words place found → fault ≡ fault_rules.rule_fault words place → FindsFirst words (place + 1) result }
+    ensures { AddsFault found place fault result }
 {
     if found.is_some() {
         return found;
@@ -55,10 +52,11 @@ fn earlier(found: Option<Found>, place: usize, fault: Option<TypeFault>) -> Opti
     Some(Found { place, fault })
 }
 
-pub fn go_over(alloc: Global, words: &Words, places: &Places) -> Result<Pass, AllocError>
+/// Goes over all instructions.
+pub fn go_over(alloc: Global, words: &Words, places: &Places) -> Result<FirstPass, AllocError>
     requires few { length words.now.insts < 2 ^ 32 }
     requires defined { HasPlaces places.now words.now.insts }
-    ensures { IfOk result (λ pass. GoesOver words.now pass) }
+    ensures { IfOk result (λ pass. IsFirstPass words.now pass) }
 {
     let mut table = BTreeMap::new(alloc);
     let mut found = None;
@@ -68,5 +66,5 @@ pub fn go_over(alloc: Global, words: &Words, places: &Places) -> Result<Pass, Al
         found = earlier(found, place, fault);
         define(alloc, &mut table, inst_at(insts, place))?;
     }
-    Ok(Pass { table, found })
+    Ok(FirstPass { table, found })
 }

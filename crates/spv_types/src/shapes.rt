@@ -1,22 +1,21 @@
 //! What shapes the ids of types have.
 ghost use Rattle.std.specs.Prelude.{◌≡◌};
-ghost use Rattle.valid_model.specs.Knowledge.{meaning_in};
 ghost use Rattle.valid_model.specs.Knowledge as knowledge;
 ghost use Rattle.valid_model.specs.Shapes as spec;
 ghost use Rattle.spv_types.specs.FactsIn.{facts_in};
-ghost use Rattle.spv_types.specs.Tables.{in_table};
+ghost use Rattle.spv_types.specs.Tables.{meaning_by};
 
 use crate::knowledge::{Table, is_bool, is_integer};
 use crate::module_facts::ModuleTables;
-use valid_model::{Known, Meaning, Shape};
+use valid_model::{IdFacts, Meaning, Shape};
 
 /// Whether the id is the type of an integer or of a vector of integers.
 pub fn is_integers(table: &Table, id: u32) -> bool
-    ensures { result ≡ spec.is_integers (meaning_in (in_table table.now id)) }
+    ensures { result ≡ spec.is_integers (meaning_by table.now id) }
 {
     matches!(
         table.get(&id),
-        Some(Known {
+        Some(IdFacts {
             meaning: Meaning::Shape(Shape::Int { .. } | Shape::IntVector { .. }),
             ..
         })
@@ -25,11 +24,11 @@ pub fn is_integers(table: &Table, id: u32) -> bool
 
 /// Whether the id is the type of four signed integers.
 fn is_position_type(table: &Table, id: u32) -> bool
-    ensures { result ≡ spec.is_position_type (meaning_in (in_table table.now id)) }
+    ensures { result ≡ spec.is_position_type (meaning_by table.now id) }
 {
     match table.get(&id) {
         Some(
-            Known {
+            IdFacts {
                 meaning: Meaning::Shape(Shape::IntVector { comps, signed }),
                 ..
             },
@@ -38,12 +37,13 @@ fn is_position_type(table: &Table, id: u32) -> bool
     }
 }
 
+/// Whether the id is the type of an array.
 pub fn is_array(table: &Table, id: u32) -> bool
-    ensures { result ≡ spec.is_array (meaning_in (in_table table.now id)) }
+    ensures { result ≡ spec.is_array (meaning_by table.now id) }
 {
     matches!(
         table.get(&id),
-        Some(Known {
+        Some(IdFacts {
             meaning: Meaning::Shape(Shape::Array { .. }),
             ..
         })
@@ -51,12 +51,12 @@ pub fn is_array(table: &Table, id: u32) -> bool
 }
 
 /// The type that a pointer type points to.
-pub fn pointed_by(table: &Table, id: u32) -> Option<u32>
-    ensures { result ≡ spec.pointed_by (meaning_in (in_table table.now id)) }
+pub fn pointee_id(table: &Table, id: u32) -> Option<u32>
+    ensures { result ≡ spec.pointee_id (meaning_by table.now id) }
 {
     match table.get(&id) {
         Some(
-            Known {
+            IdFacts {
                 meaning: Meaning::Shape(Shape::Pointer { to, .. }),
                 ..
             },
@@ -69,34 +69,37 @@ pub fn pointed_by(table: &Table, id: u32) -> Option<u32>
 pub fn holds_integers(whole: &ModuleTables, ty: u32) -> bool
     ensures { result ≡ spec.is_integers (spec.held_type (facts_in whole.now) ty) }
 {
-    match pointed_by(whole.known, ty) {
+    match pointee_id(whole.known, ty) {
         Some(to) => is_integers(whole.known, to),
         None => false,
     }
 }
 
+/// Whether a variable of this type holds an integer.
 pub fn holds_integer(whole: &ModuleTables, ty: u32) -> bool
     ensures { result ≡ knowledge.is_integer (spec.held_type (facts_in whole.now) ty) }
 {
-    match pointed_by(whole.known, ty) {
+    match pointee_id(whole.known, ty) {
         Some(to) => is_integer(whole.known, to),
         None => false,
     }
 }
 
+/// Whether a variable of this type holds a truth value.
 pub fn holds_bool(whole: &ModuleTables, ty: u32) -> bool
     ensures { result ≡ knowledge.is_bool (spec.held_type (facts_in whole.now) ty) }
 {
-    match pointed_by(whole.known, ty) {
+    match pointee_id(whole.known, ty) {
         Some(to) => is_bool(whole.known, to),
         None => false,
     }
 }
 
+/// Whether a variable of this type holds four signed integers.
 pub fn holds_position(whole: &ModuleTables, ty: u32) -> bool
     ensures { result ≡ spec.is_position_type (spec.held_type (facts_in whole.now) ty) }
 {
-    match pointed_by(whole.known, ty) {
+    match pointee_id(whole.known, ty) {
         Some(to) => is_position_type(whole.known, to),
         None => false,
     }

@@ -3,7 +3,9 @@ use crate::samples::{
     UNIFORM_FRAGMENT, module,
 };
 use crate::{Ids, Meaning, Shape, TypeFault, ids_of};
-use spirv_model::{Words, op};
+use limits::MODULE_WORDS;
+use spirv_model::{Inst, Items, Words, decoration, op};
+use std::alloc::{AllocError, Global};
 use std::test::Fail;
 
 /// A signed and an unsigned integer type, OpTypeBool and the constant 5.
@@ -174,9 +176,9 @@ const CASES: [(Listing, Option<TypeFault>); 27] = [
     ),
 ];
 
-/// What is answered for a module. Listings are short.
+/// What is answered for a module, which has no more instructions than a module that is read.
 pub fn answer(rt: &HostRuntime, words: &Words) -> Result<Result<Ids, TypeFault>, Fail> {
-    if words.insts.len() > 100 {
+    if words.insts.len() > MODULE_WORDS {
         return Err(Fail::new("a long listing"));
     }
     Ok(ids_of(rt.alloc(), words))
@@ -255,5 +257,72 @@ fn a_structure_keeps_its_members(rt: HostRuntime) -> Result<(), Fail> {
     };
     assert_eq!(rt; members.list.as_slice(), [3].as_slice());
     assert!(rt; matches!(ids.at(16), Meaning::Value { ty: 3 }));
+    Ok(())
+}
+
+/// So many instructions with the opcode: after its first, each has these words, its number from 1 on, and these.
+fn numbered(
+    alloc: Global,
+    count: u32,
+    op: u16,
+    front: &[u32],
+    back: &[u32],
+) -> Result<Words, AllocError> {
+    let mut insts = Items::new(alloc);
+    for place in 0..count {
+        let mut words = Items::from_slice(alloc, front)?;
+        words.push(place + 1)?;
+        words.append(Items::from_slice(alloc, back)?)?;
+        insts.push(Inst { op, words })?;
+    }
+    Ok(Words {
+        bound: 8_190,
+        insts,
+    })
+}
+
+// After the five words of the header a module has at most 16,379.
+
+#[test]
+fn the_most_instructions(rt: HostRuntime) -> Result<(), Fail> {
+    let mut insts = Items::new(rt.alloc());
+    for _ in 0..16_379 {
+        let words = Items::new(rt.alloc());
+        insts.push(Inst {
+            op: op::FUNCTION_END,
+            words,
+        })?;
+    }
+    let ids = answer(&rt, &Words { bound: 1, insts })??;
+    assert!(rt; matches!(ids.at(1), Meaning::Absent));
+    Ok(())
+}
+
+#[test]
+fn the_most_types(rt: HostRuntime) -> Result<(), Fail> {
+    let words = numbered(rt.alloc(), 8_189, op::TYPE_VOID, &[], &[])?;
+    let ids = answer(&rt, &words)??;
+    assert!(rt; matches!(ids.at(8_189), Meaning::Shape(Shape::Void)));
+    assert!(rt; matches!(ids.at(8_190), Meaning::Absent));
+    Ok(())
+}
+
+#[test]
+fn the_most_decorations_with_a_word(rt: HostRuntime) -> Result<(), Fail> {
+    let stride = [decoration::ARRAY_STRIDE, 12];
+    let words = numbered(rt.alloc(), 4_094, op::DECORATE, &[], &stride)?;
+    let ids = answer(&rt, &words)??;
+    assert_eq!(rt; ids.stride(4_094), Some(12));
+    assert_eq!(rt; ids.stride(4_095), None);
+    Ok(())
+}
+
+#[test]
+fn the_most_members_with_an_offset(rt: HostRuntime) -> Result<(), Fail> {
+    let offset = [decoration::OFFSET, 12];
+    let words = numbered(rt.alloc(), 3_275, op::MEMBER_DECORATE, &[7], &offset)?;
+    let ids = answer(&rt, &words)??;
+    assert_eq!(rt; ids.offset(7, 3_275), Some(12));
+    assert_eq!(rt; ids.offset(7, 3_276), None);
     Ok(())
 }

@@ -1,8 +1,7 @@
 //! Which types, variables and functions are allowed (SPIR-V specification, section 3.49.6 "Type-Declaration Instructions").
 ghost use Rattle.std.specs.Prelude.{◌≡◌, ◌<◌, length, IfOk};
-ghost use Rattle.valid_model.specs.Knowledge as knowledge;
 ghost use Rattle.valid_model.specs.Types as spec;
-ghost use Rattle.spv_types.specs.Tables.{in_table, HasPlaces};
+ghost use Rattle.spv_types.specs.Tables.{HasPlaces, in_table, meaning_by};
 
 use crate::definitions::{Places, inst_at};
 use crate::knowledge::{Table, a_type, is_data, is_storage_class, is_void, length, size};
@@ -12,15 +11,16 @@ use spirv_model::table::{Entry, Operand};
 use spirv_model::{Inst, Items, op};
 use spv_words::{class_of, entry_of};
 use std::alloc::{AllocError, Global};
-use valid_model::{Known, Meaning, Members, Shape};
+use valid_model::{IdFacts, Meaning, Members, Shape};
 
+/// Whether an instruction with this opcode declares a type.
 pub fn is_type(opcode: u16) -> bool
     ensures { result ≡ spec.is_type opcode }
 {
     matches!(class_of(opcode), Some(Class::TypeDeclaration))
 }
 
-fn integer_type(width: u32, signedness: u32) -> Option<Known>
+fn integer_type(width: u32, signedness: u32) -> Option<IdFacts>
     ensures { result ≡ spec.integer_type width signedness }
 {
     if width == 32 && signedness <= 1 {
@@ -31,8 +31,8 @@ fn integer_type(width: u32, signedness: u32) -> Option<Known>
     }
 }
 
-fn vector_type(table: &Table, component: u32, count: u32) -> Option<Known>
-    ensures { result ≡ spec.vector_type (knowledge.meaning_in (in_table table.now component)) count }
+fn vector_type(table: &Table, component: u32, count: u32) -> Option<IdFacts>
+    ensures { result ≡ spec.vector_type (meaning_by table.now component) count }
 {
     if count < 2 || count > 4 {
         return None;
@@ -49,11 +49,11 @@ fn vector_type(table: &Table, component: u32, count: u32) -> Option<Known>
 
 /// The elements of an array whose length is an OpConstant of this type and word.
 fn constant_length(table: &Table, ty: u32, word: u32) -> u32
-    ensures { result ≡ spec.constant_length (knowledge.meaning_in (in_table table.now ty)) word }
+    ensures { result ≡ spec.constant_length (meaning_by table.now ty) word }
 {
     match table.get(&ty) {
         Some(
-            Known {
+            IdFacts {
                 meaning: Meaning::Shape(Shape::Int { signed }),
                 ..
             },
@@ -71,7 +71,7 @@ fn constant_length(table: &Table, ty: u32, word: u32) -> u32
 /// The elements of an array whose length is the result of an instruction with this opcode, this type and this word: those
 /// of an OpConstant.
 pub fn array_length(table: &Table, opcode: u16, ty: u32, word: u32) -> u32
-    ensures { result ≡ spec.array_length opcode (knowledge.meaning_in (in_table table.now ty)) word }
+    ensures { result ≡ spec.array_length opcode (meaning_by table.now ty) word }
 {
     if opcode == op::CONSTANT {
         constant_length(table, ty, word)
@@ -80,7 +80,7 @@ pub fn array_length(table: &Table, opcode: u16, ty: u32, word: u32) -> u32
     }
 }
 
-fn array_type(table: &Table, elem: u32, len: u32) -> Option<Known>
+fn array_type(table: &Table, elem: u32, len: u32) -> Option<IdFacts>
     ensures { result ≡ spec.array_type (in_table table.now elem) elem len }
 {
     if !is_data(table, elem) || len == 0 {
@@ -110,7 +110,7 @@ fn struct_size(table: &Table, members: &[u32]) -> Option<u32>
     Some(words as u32)
 }
 
-fn struct_type(alloc: Global, table: &Table, members: &[u32]) -> Result<Option<Known>, AllocError>
+fn struct_type(alloc: Global, table: &Table, members: &[u32]) -> Result<Option<IdFacts>, AllocError>
     ensures { IfOk result (λ made. made ≡ spec.struct_type (in_table table.now) members.now) }
 {
     let Some(size) = struct_size(table, members) else {
@@ -121,8 +121,8 @@ fn struct_type(alloc: Global, table: &Table, members: &[u32]) -> Result<Option<K
     Ok(Some(a_type(Shape::Struct { members }, size)))
 }
 
-fn pointer_type(table: &Table, class: u32, to: u32) -> Option<Known>
-    ensures { result ≡ spec.pointer_type (knowledge.meaning_in (in_table table.now to)) class to }
+fn pointer_type(table: &Table, class: u32, to: u32) -> Option<IdFacts>
+    ensures { result ≡ spec.pointer_type (meaning_by table.now to) class to }
 {
     if !is_storage_class(class) || !is_data(table, to) {
         return None;
@@ -131,8 +131,8 @@ fn pointer_type(table: &Table, class: u32, to: u32) -> Option<Known>
     Some(a_type(Shape::Pointer { class, to }, 0))
 }
 
-fn function_type(table: &Table, returned: u32) -> Option<Known>
-    ensures { result ≡ spec.function_type (knowledge.meaning_in (in_table table.now returned)) }
+fn function_type(table: &Table, returned: u32) -> Option<IdFacts>
+    ensures { result ≡ spec.function_type (meaning_by table.now returned) }
 {
     if is_void(table, returned) {
         Some(a_type(Shape::Function, 0))
@@ -143,7 +143,7 @@ fn function_type(table: &Table, returned: u32) -> Option<Known>
 
 /// The type that an instruction declares, where it is allowed.
 #[tactic(auto, unfolding(valid_model::specs::Types::type_of))]
-pub fn type_of(alloc: Global, table: &Table, inst: &Inst) -> Result<Option<Known>, AllocError>
+pub fn type_of(alloc: Global, table: &Table, inst: &Inst) -> Result<Option<IdFacts>, AllocError>
     ensures { IfOk result (λ made. made ≡ spec.type_of (in_table table.now) inst.now) }
 {
     Ok(match inst.op {
@@ -163,11 +163,11 @@ pub fn type_of(alloc: Global, table: &Table, inst: &Inst) -> Result<Option<Known
 }
 
 fn is_pointer_of(table: &Table, class: u32, id: u32) -> bool
-    ensures { result ≡ spec.is_pointer_of class (knowledge.meaning_in (in_table table.now id)) }
+    ensures { result ≡ spec.is_pointer_of class (meaning_by table.now id) }
 {
     match table.get(&id) {
         Some(
-            Known {
+            IdFacts {
                 meaning: Meaning::Shape(Shape::Pointer { class: own, .. }),
                 ..
             },
@@ -177,17 +177,18 @@ fn is_pointer_of(table: &Table, class: u32, id: u32) -> bool
 }
 
 fn is_function(table: &Table, id: u32) -> bool
-    ensures { result ≡ spec.is_function (knowledge.meaning_in (in_table table.now id)) }
+    ensures { result ≡ spec.is_function (meaning_by table.now id) }
 {
     matches!(
         table.get(&id),
-        Some(Known {
+        Some(IdFacts {
             meaning: Meaning::Shape(Shape::Function),
             ..
         })
     )
 }
 
+/// Whether the instruction declares a type, a variable or a function that isn't allowed.
 #[tactic(auto, unfolding(valid_model::specs::Types::breaks_types))]
 pub fn breaks_types(alloc: Global, table: &Table, inst: &Inst) -> Result<bool, AllocError>
     ensures { IfOk result (λ breaks. breaks ≡ spec.breaks_types (in_table table.now) inst.now) }

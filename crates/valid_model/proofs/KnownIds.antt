@@ -5,19 +5,19 @@ use Rattle.std.specs.Option.{option_map}
 use Rattle.std.specs.List.{fold}
 use Rattle.std.proofs.lemmas.List.Sums.{fold-append, fold_more}
 use Rattle.spirv_model.specs.declared.module.Inst.{Inst}
-use Rattle.valid_model.specs.declared.meaning.Known.{Known}
+use Rattle.valid_model.specs.declared.meaning.IdFacts.{IdFacts}
 use Rattle.valid_model.specs.Definitions.{gives, definition, inst_at, no_instruction}
 use Rattle.valid_model.specs.Knowledge.{Knowledge, nothing_known}
 use Rattle.valid_model.specs.Meanings.{known_of, known_after, known_by, known_before}
 
 -- ---- what is known stays
 
-after_kept : (here : Bool) (before : Option Known) (made known : Known) → before ≡ Some known → (if here && is_none before then Some made else before) ≡ Some known
+after_kept : (here : Bool) (before : Option IdFacts) (made known : IdFacts) → before ≡ Some known → (if here && is_none before then Some made else before) ≡ Some known
 after_kept here None made known is = cc
 after_kept true (Some own) made known is = is
 after_kept false (Some own) made known is = is
 
-kept : (insts : List Inst) (before : Knowledge) (id : ℕ) (known : Known) → before id ≡ Some known → fold known_after before insts id ≡ Some known
+kept : (insts : List Inst) (before : Knowledge) (id : ℕ) (known : IdFacts) → before id ≡ Some known → fold known_after before insts id ≡ Some known
 unfolding known_after
 kept [] before id known is = is
 kept (inst ∷ insts) before id known is =
@@ -28,13 +28,13 @@ unfolding known_by
 by_parts insts place =
     ap (fold known_after nothing_known) (sym (take-append-drop place insts)) ∙ fold-append known_after nothing_known (take place insts) (drop place insts)
 
-pub known_stays : (insts : List Inst) (place id : ℕ) (known : Known) → known_before insts place id ≡ Some known → known_by insts id ≡ Some known
+pub known_stays : (insts : List Inst) (place id : ℕ) (known : IdFacts) → known_before insts place id ≡ Some known → known_by insts id ≡ Some known
 known_stays insts place id known is =
     ap (λ (k : Knowledge). k id) (by_parts insts place) ∙ kept (drop place insts) (known_before insts place) id known is
 
 -- ---- an id is known where it is defined
 
-seen_now : (here : Bool) (before : Option Known) (made : Known) (later : Option ℕ)
+seen_now : (here : Bool) (before : Option IdFacts) (made : IdFacts) (later : Option ℕ)
     → (is_some (if here && is_none before then Some made else before) || is_some later)
     ≡ (is_some before || is_some (if here then Some 0 else option_map (λ (place : ℕ). suc place) later))
 seen_now true None made later = refl
@@ -90,7 +90,7 @@ before_definition (inst ∷ insts) id (suc place) is =
           (omega (arith, rest.0), rest.1, not_at_front (gives id inst) (definition (take place insts) id) past rest.2)
     ]
 
-known_after_definition : (here : Bool) (before : Option Known) (made : Known) → here ≡ true → before ≡ None → (if here && is_none before then Some made else before) ≡ Some made
+known_after_definition : (here : Bool) (before : Option IdFacts) (made : IdFacts) → here ≡ true → before ≡ None → (if here && is_none before then Some made else before) ≡ Some made
 known_after_definition true None made is none = refl
 known_after_definition true (Some known) made is none = cc
 known_after_definition false before made is none = cc

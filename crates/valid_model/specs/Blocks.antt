@@ -6,7 +6,7 @@ use Rattle.valid_model.specs.declared.meaning.Meaning.{Meaning}
 use Rattle.valid_model.specs.declared.meaning.Meaning.TheVariants.{Shape as OfShape}
 use Rattle.valid_model.specs.declared.meaning.Shape.TheVariants.{Array, Struct}
 use Rattle.valid_model.specs.ModuleFacts.{ModuleFacts, is_decorated}
-use Rattle.valid_model.specs.Shapes.{is_array, is_integers, pointed_by}
+use Rattle.valid_model.specs.Shapes.{is_array, is_integers, pointee_id}
 
 -- an integer, a vector of integers, or an array of these
 abbrev pub is_block_member : ModuleFacts → Meaning → Bool
@@ -43,4 +43,4 @@ is_block facts (Some id) = is_block_type facts id (facts.meaning id)
 
 -- a pointer to such a structure
 abbrev pub points_to_block : ModuleFacts → ℕ → Bool
-points_to_block facts type = is_block facts (pointed_by (facts.meaning type))
+points_to_block facts type = is_block facts (pointee_id (facts.meaning type))

@@ -1,7 +1,7 @@
 -- What is known of the ids of a module, and what that says of types and of constants.
 use Rattle.std.specs.Prelude.{ℕ, Bool, true, false, ◌||◌, ◌==◌, Option, None, Some}
 use Rattle.spirv_model.specs.declared.storage_class.TheConstants.{INPUT, UNIFORM, OUTPUT, PRIVATE, FUNCTION, PUSH_CONSTANT}
-use Rattle.valid_model.specs.declared.meaning.Known.{Known}
+use Rattle.valid_model.specs.declared.meaning.IdFacts.{IdFacts}
 use Rattle.valid_model.specs.declared.meaning.Meaning.{Meaning}
 use Rattle.valid_model.specs.declared.meaning.Meaning.TheVariants.{Absent, Shape as OfShape, Constant}
 use Rattle.valid_model.specs.declared.meaning.Shape.{Shape}
@@ -11,29 +11,29 @@ use Rattle.valid_model.specs.declared.meaning.Shape.TheVariants.{Void, Bool as T
 
 -- of each id, where it is defined
 abbrev pub Knowledge : Type 0
-Knowledge = ℕ → Option Known
+Knowledge = ℕ → Option IdFacts
 
 abbrev pub nothing_known : Knowledge
 nothing_known id = None
 
-abbrev pub meaning_in : Option Known → Meaning
+abbrev pub meaning_in : Option IdFacts → Meaning
 meaning_in None = Absent
 meaning_in (Some known) = known.meaning
 
-abbrev pub size_in : Option Known → ℕ
+abbrev pub size_in : Option IdFacts → ℕ
 size_in None = 0
 size_in (Some known) = known.size
 
-abbrev pub length_in : Option Known → ℕ
+abbrev pub length_in : Option IdFacts → ℕ
 length_in None = 0
 length_in (Some known) = known.length
 
 -- an id with this meaning that is no type and no length of an array
-abbrev pub means : Meaning → Known
+abbrev pub means : Meaning → IdFacts
 means meaning = record { meaning = meaning; size = 0; length = 0 }
 
 -- a type of this shape and so many words
-abbrev pub a_type : Shape → ℕ → Known
+abbrev pub a_type : Shape → ℕ → IdFacts
 a_type shape size = record { meaning = OfShape shape; size = size; length = 0 }
 
 -- ---- types

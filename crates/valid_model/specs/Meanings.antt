@@ -5,7 +5,7 @@ use Rattle.std.specs.Option.{unwrap_or}
 use Rattle.spirv_model.specs.declared.class.Class.{Class}
 use Rattle.spirv_model.specs.declared.class.Class.TheVariants as class
 use Rattle.spirv_model.specs.declared.module.Inst.{Inst}
-use Rattle.valid_model.specs.declared.meaning.Known.{Known}
+use Rattle.valid_model.specs.declared.meaning.IdFacts.{IdFacts}
 use Rattle.valid_model.specs.declared.meaning.Meaning.{Meaning}
 use Rattle.valid_model.specs.declared.meaning.Meaning.TheVariants.{Constant, Variable, Value, Label, Other}
 use Rattle.spirv_model.specs.Operands.{word_at, class_of}
@@ -24,7 +24,7 @@ is_constant_class other = false
 abbrev pub is_constant : ℕ → Bool
 is_constant opcode = is_constant_class (class_of opcode)
 
-abbrev pub constant_known : Knowledge → ℕ → ℕ → ℕ → Known
+abbrev pub constant_known : Knowledge → ℕ → ℕ → ℕ → IdFacts
 constant_known known opcode type word = record {
   meaning = Constant type;
   size = 0;
@@ -41,7 +41,7 @@ other_meaning opcode type =
     else Value type
 
 -- what is known of the result of an instruction, by what is known before it
-unfoldable pub known_of : Knowledge → Inst → Known
+unfoldable pub known_of : Knowledge → Inst → IdFacts
 known_of known inst =
     if is_type inst.op then unwrap_or (type_of known inst) (means Other)
     else if is_constant inst.op then constant_known known inst.op (word_at 0 inst) (word_at 2 inst)

@@ -21,6 +21,14 @@ binary_fits (Some (Scalar TruthFromWords)) type a b = is_bool type && is_integer
 binary_fits (Some (Scalar TruthFromTruths)) type a b = is_bool type && is_bool a && is_bool b
 binary_fits class type a b = false
 
+-- of scalar constants, as its operands are
+abbrev pub unary_operation_fits : Knowledge → ℕ → Option Class → ℕ → Bool
+unary_operation_fits known type class a = unary_fits class (meaning_in (known type)) (constant_type known a)
+
+abbrev pub binary_operation_fits : Knowledge → ℕ → Option Class → ℕ → ℕ → Bool
+binary_operation_fits known type class a b =
+    binary_fits class (meaning_in (known type)) (constant_type known a) (constant_type known b)
+
 abbrev pub is_select : Option Class → Bool
 is_select (Some (Scalar Select)) = true
 is_select class = false
@@ -33,7 +41,7 @@ select_fits known type condition a b =
 
 -- the operation fits its operands, which are scalar constants that are defined before, and the type of its result
 abbrev pub operation_fits : Knowledge → ℕ → ℕ → List ℕ → Bool
-operation_fits known type opcode (a ∷ []) = unary_fits (class_of opcode) (meaning_in (known type)) (constant_type known a)
-operation_fits known type opcode (a ∷ b ∷ []) = binary_fits (class_of opcode) (meaning_in (known type)) (constant_type known a) (constant_type known b)
+operation_fits known type opcode (a ∷ []) = unary_operation_fits known type (class_of opcode) a
+operation_fits known type opcode (a ∷ b ∷ []) = binary_operation_fits known type (class_of opcode) a b
 operation_fits known type opcode (condition ∷ a ∷ b ∷ []) = is_select (class_of opcode) && select_fits known type condition a b
 operation_fits known type opcode operands = false

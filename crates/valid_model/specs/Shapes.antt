@@ -21,9 +21,9 @@ is_position_type (OfShape (IntVector count signed)) = (count == 4) && signed
 is_position_type type = false
 
 -- the type that a pointer type points to
-abbrev pub pointed_by : Meaning → Option ℕ
-pointed_by (OfShape (Pointer class to)) = Some to
-pointed_by type = None
+abbrev pub pointee_id : Meaning → Option ℕ
+pointee_id (OfShape (Pointer class to)) = Some to
+pointee_id type = None
 
 abbrev pub pointee : ModuleFacts → Option ℕ → Meaning
 pointee facts None = Absent
@@ -31,4 +31,4 @@ pointee facts (Some to) = facts.meaning to
 
 -- the type of what a variable of this type holds
 abbrev pub held_type : ModuleFacts → ℕ → Meaning
-held_type facts type = pointee facts (pointed_by (facts.meaning type))
+held_type facts type = pointee facts (pointee_id (facts.meaning type))

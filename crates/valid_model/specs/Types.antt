@@ -11,7 +11,7 @@ use Rattle.spirv_model.specs.declared.table.Entry.{Entry}
 use Rattle.spirv_model.specs.declared.table.Entry.TheVariants.{Listed}
 use Rattle.spirv_model.specs.declared.table.Operand.{Operand}
 use Rattle.spirv_model.specs.declared.table.Operand.TheVariants.{IdResultType}
-use Rattle.valid_model.specs.declared.meaning.Known.{Known}
+use Rattle.valid_model.specs.declared.meaning.IdFacts.{IdFacts}
 use Rattle.valid_model.specs.declared.meaning.Meaning.{Meaning}
 use Rattle.valid_model.specs.declared.meaning.Meaning.TheVariants.{Shape as OfShape}
 use Rattle.valid_model.specs.declared.meaning.Shape.{Shape}
@@ -32,7 +32,7 @@ abbrev pub is_type : ℕ → Bool
 is_type opcode = is_type_class (class_of opcode)
 
 -- an integer has 32 bits, and is unsigned or signed
-abbrev pub integer_type : ℕ → ℕ → Option Known
+abbrev pub integer_type : ℕ → ℕ → Option IdFacts
 integer_type width signedness = if (width == 32) && nat_le signedness 1 then Some (a_type (Int (signedness == 1)) 1) else None
 
 abbrev pub vector_shape : Meaning → ℕ → Option Shape
@@ -41,7 +41,7 @@ vector_shape (OfShape (Int signed)) count = Some (IntVector count signed)
 vector_shape meaning count = None
 
 -- a vector has two to four components, which are truth values or integers
-abbrev pub vector_type : Meaning → ℕ → Option Known
+abbrev pub vector_type : Meaning → ℕ → Option IdFacts
 vector_type component count =
     if nat_le 2 count && nat_le count 4 then option_map (λ shape. a_type shape count) (vector_shape component count) else None
 
@@ -57,7 +57,7 @@ abbrev pub array_length : ℕ → Meaning → ℕ → ℕ
 array_length opcode type word = if opcode == op.CONSTANT then constant_length type word else 0
 
 -- an array has at least one element, and isn't too large
-abbrev pub array_type : Option Known → ℕ → ℕ → Option Known
+abbrev pub array_type : Option IdFacts → ℕ → ℕ → Option IdFacts
 array_type element id length =
     if is_data (meaning_in element) && nat_lt 0 length && nat_le (length * size_in element) TYPE_WORDS
     then Some (a_type (Array id length) (length * size_in element))
@@ -74,18 +74,18 @@ struct_size known members =
     then Some (members_size known members)
     else None
 
-abbrev pub struct_type : Knowledge → List ℕ → Option Known
+abbrev pub struct_type : Knowledge → List ℕ → Option IdFacts
 struct_type known members = option_map (λ size. a_type (Struct (record { list = members })) size) (struct_size known members)
 
-abbrev pub pointer_type : Meaning → ℕ → ℕ → Option Known
+abbrev pub pointer_type : Meaning → ℕ → ℕ → Option IdFacts
 pointer_type pointee class to = if is_storage_class class && is_data pointee then Some (a_type (Pointer class to) 0) else None
 
 -- a function has no result
-abbrev pub function_type : Meaning → Option Known
+abbrev pub function_type : Meaning → Option IdFacts
 function_type returned = if is_void returned then Some (a_type Function 0) else None
 
 -- the type that an instruction declares, where it is allowed
-unfoldable pub type_of : Knowledge → Inst → Option Known
+unfoldable pub type_of : Knowledge → Inst → Option IdFacts
 type_of known inst =
     if inst.op == op.TYPE_VOID then Some (a_type Void 0)
     else if inst.op == op.TYPE_BOOL then Some (a_type Truth 1)

@@ -4,5 +4,5 @@
 mod meaning;
 mod type_fault;
 
-pub use meaning::{Known, Meaning, Members, Shape};
+pub use meaning::{IdFacts, Meaning, Members, Shape};
 pub use type_fault::TypeFault;

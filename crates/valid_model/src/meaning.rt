@@ -46,7 +46,7 @@ pub enum Meaning {
 
 /// What is known of an id.
 #[derive(Debug, Drop)]
-pub struct Known {
+pub struct IdFacts {
     pub meaning: Meaning,
     /// The number of words of a type's values, 0 for types without values that are stored as data and for all other ids.
     pub size: u32,

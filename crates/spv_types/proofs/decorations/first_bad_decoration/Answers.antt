@@ -6,7 +6,7 @@ use Rattle.spv_types.proofs.decorations.first_bad_decoration.Goals as goal
 
 pub loop-place-init : goal.loop-place-init
 loop-place-init c = record {
-  stands = c.nothing_seen-seen.ensures (facts_in c.args.whole.now);
+  stands = c.no_earlier_facts-seen.ensures (facts_in c.args.whole.now);
   sound = λ at below. absurd (omega arith);
 }
 
