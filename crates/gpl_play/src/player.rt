@@ -44,7 +44,8 @@ pub fn run<R: Threads + Wait + Sync, S: Source, K: Sink, G: Gate>(
         → WritesDue (S.left source.old) (K.held sink.old) (K.held sink.new) }
     ensures read { result.status ≡ DONE → IsAtEnd (S.left source.new) }
 
-    ensures usage { (result.status ≡ USAGE) ↔ (IsPlay (map string_bytes words.now.items) → ⊥) }
+    ensures usage { (result.status ≡ USAGE)
+        ↔ (IsPlay (map string_bytes words.now.items) → ⊥) }
     ensures unread { result.status ≡ USAGE → Keeps (S.left source.old) (S.left source.new) }
 
     // Bytes that are no trace: exactly at them, where no read failed.
@@ -55,7 +56,8 @@ pub fn run<R: Threads + Wait + Sync, S: Source, K: Sink, G: Gate>(
         → NoFault (S.faults source.old) (S.faults source.new)
         → IfSome (S.left source.old) (IsRefusedIfNoTrace result.status) }
     ensures fault { IsSome result.fault ↔ (result.status ≡ REFUSED) }
-    ensures fault_line { IfSome result.fault (λ fault. fault ≡ record { line = 0; cause = NotYet }) }
+    ensures fault_line { IfSome result.fault
+        (λ fault. fault ≡ record { line = 0; cause = NotYet }) }
 
     ensures read_failed { result.status ≡ READ_FAILED
         → Rose (S.faults source.old) (S.faults source.new) }

@@ -118,7 +118,8 @@ impl<F: Fit> Table<F> {
 
     fn store_record(&self, seat: &mut Seat, end: u64, words: &[u32])
         requires table { seat.old.table_id ≡ id_of self.now }
-        requires publishes { (seat.old.me.0.publishes ≡ true) × (seat.old.me.0.units.partly ≡ []) }
+        requires publishes { (seat.old.me.0.publishes ≡ true)
+            × (seat.old.me.0.units.partly ≡ []) }
         requires room { HasHeapFor (heap_room_of self.now) seat.old.me.0.units end words.now }
         ensures table { seat.new.table_id ≡ seat.old.table_id }
         ensures view { Becomes (with_record words.now) seat.old.me seat.new.me }
@@ -146,7 +147,8 @@ impl<F: Fit> Table<F> {
     // Publishes a record: first its words, then the address word.
     pub(crate) fn accept(&self, seat: &mut Seat, unit: u32, end: u64, words: &[u32])
         requires table { seat.old.table_id ≡ id_of self.now }
-        requires publishes { (seat.old.me.0.publishes ≡ true) × (seat.old.me.0.units.partly ≡ []) }
+        requires publishes { (seat.old.me.0.publishes ≡ true)
+            × (seat.old.me.0.units.partly ≡ []) }
         requires gap { address_of seat.old.me.0.units.built unit ≡ 0 }
         requires room { HasHeapFor (heap_room_of self.now) seat.old.me.0.units end words.now }
         requires record { MayBeRecord self.now seat.old.me.0 unit words.now }

@@ -65,7 +65,8 @@ pub trait Pops<J: Numbered> {
     /// Loads the closed word, and says whether it is 1.
     fn closed(&mut self) -> bool
         ensures answer { result ≡ ((tally self.new).closed_found == 1) }
-        ensures load { tally self.new ≡ after_load (tally self.new).closed_found (tally self.old) };
+        ensures load { tally self.new
+            ≡ after_load (tally self.new).closed_found (tally self.old) };
 
     /// May wait until a job was pushed or the queues were closed, and changes nothing.
     fn rest<R: Threads + Wait + Sync>(&mut self, rt: &R)

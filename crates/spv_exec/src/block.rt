@@ -61,7 +61,8 @@ fn step(
     memory: &mut BTreeMap<u32, [u32; COMPONENTS]>,
     inst: &Inst,
 ) -> Result<Stepped, AllocError>
-    ensures { IfOk result (λ stepped. (m : machine.Machine) → Holds values.now m.values → HoldsWords memory.old m.memory
+    ensures { IfOk result (λ stepped. (m : machine.Machine) → Holds values.now m.values
+        → HoldsWords memory.old m.memory
         → Follows stepped memory.new m (machine.step_of inst.now m)) }
 {
     let words = inst.words.as_slice();
@@ -79,7 +80,8 @@ fn store(
     pointer: u32,
     object: u32,
 ) -> Result<Stepped, AllocError>
-    ensures { IfOk result (λ stepped. (m : machine.Machine) → Holds values.now m.values → HoldsWords memory.old m.memory
+    ensures { IfOk result (λ stepped. (m : machine.Machine) → Holds values.now m.values
+        → HoldsWords memory.old m.memory
         → Follows stepped memory.new m (machine.store_step (pointer ∷ object ∷ []) m)) }
 {
     let Some(Value::Variable(variable)) = values.get(&pointer) else {
@@ -97,7 +99,8 @@ fn write(
     variable: u32,
     words: &[u32],
 ) -> Result<(), AllocError>
-    ensures { OnOk result ((all : value.Memory) → HoldsWords memory.old all → HoldsWords memory.new (with_words all variable 0 words.now)) }
+    ensures { OnOk result ((all : value.Memory) → HoldsWords memory.old all
+        → HoldsWords memory.new (with_words all variable 0 words.now)) }
 {
     let held = memory.get(&variable).copied().unwrap_or([0; COMPONENTS]);
     memory.insert(variable, overwritten(held, words))?;
@@ -106,7 +109,8 @@ fn write(
 
 /// Four words, with others written over them from the first on.
 fn overwritten(mut held: [u32; COMPONENTS], words: &[u32]) -> [u32; COMPONENTS]
-    ensures { (at : ℕ) → at < 4 → slice_index result at ≡ (if nat_lt at (length words.now) then slice_index words.now at else slice_index held at) }
+    ensures { (at : ℕ) → at < 4 → slice_index result at
+        ≡ (if nat_lt at (length words.now) then slice_index words.now at else slice_index held at) }
 {
     for at in 0..words.len().min(COMPONENTS) {
         held[at] = words[at];

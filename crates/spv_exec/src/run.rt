@@ -19,7 +19,8 @@ use std::collections::BTreeMap;
 /// OpReturn, with constants, their composites and variables.
 pub fn run_flat(alloc: Global, insts: &[Inst]) -> Result<Ended, Memory>
     requires { IsSome (flat.flat_outcome insts.now) }
-    ensures { IfOk result (λ ended. option_map ended_of (flat.flat_outcome insts.now) ≡ Some ended) }
+    ensures { IfOk result (λ ended. option_map ended_of (flat.flat_outcome insts.now)
+        ≡ Some ended) }
 {
     let Some(first) = first_label(insts) else {
         unreachable!()
@@ -51,7 +52,8 @@ fn slots(
     insts: &[Inst],
     memory: &BTreeMap<u32, [u32; COMPONENTS]>,
 ) -> [[u32; COMPONENTS]; LOCATIONS]
-    ensures { (all : value.Memory) → HoldsWords memory.now all → result ≡ flat.slots_of insts.now all }
+    ensures { (all : value.Memory) → HoldsWords memory.now all → result
+        ≡ flat.slots_of insts.now all }
 {
     let mut slots = [[0; COMPONENTS]; LOCATIONS];
     for location in 0..LOCATIONS {
@@ -63,7 +65,8 @@ fn slots(
 
 /// The first four words of a variable; zeros where there is none.
 fn components(memory: &BTreeMap<u32, [u32; COMPONENTS]>, variable: Option<u32>) -> [u32; COMPONENTS]
-    ensures { (all : value.Memory) → HoldsWords memory.now all → result ≡ flat.components_of all variable }
+    ensures { (all : value.Memory) → HoldsWords memory.now all → result
+        ≡ flat.components_of all variable }
 {
     match variable {
         Some(variable) => memory.get(&variable).copied().unwrap_or([0; COMPONENTS]),

@@ -32,7 +32,8 @@ pub fn defined_by(alloc: Global, insts: &[Inst]) -> Result<BTreeMap<u32, Value>,
 }
 
 fn define(alloc: Global, values: &mut BTreeMap<u32, Value>, inst: &Inst) -> Result<(), AllocError>
-    ensures { OnOk result ((all : value.Values) → Holds values.old all → Holds values.new (machine.with_definition all inst.now)) }
+    ensures { OnOk result ((all : value.Values) → Holds values.old all
+        → Holds values.new (machine.with_definition all inst.now)) }
 {
     let words = inst.words.as_slice();
     match inst.op {
@@ -48,7 +49,8 @@ fn define_constant(
     values: &mut BTreeMap<u32, Value>,
     words: &[u32],
 ) -> Result<(), AllocError>
-    ensures { OnOk result ((all : value.Values) → Holds values.old all → Holds values.new (machine.with_constant all words.now)) }
+    ensures { OnOk result ((all : value.Values) → Holds values.old all
+        → Holds values.new (machine.with_constant all words.now)) }
 {
     let &[_, id, word] = words else {
         return Ok(());
@@ -59,7 +61,8 @@ fn define_constant(
 }
 
 fn define_variable(values: &mut BTreeMap<u32, Value>, words: &[u32]) -> Result<(), AllocError>
-    ensures { OnOk result ((all : value.Values) → Holds values.old all → Holds values.new (machine.with_variable all words.now)) }
+    ensures { OnOk result ((all : value.Values) → Holds values.old all
+        → Holds values.new (machine.with_variable all words.now)) }
 {
     let &[_, id, _] = words else {
         return Ok(());
@@ -73,7 +76,8 @@ fn define_composite(
     values: &mut BTreeMap<u32, Value>,
     words: &[u32],
 ) -> Result<(), AllocError>
-    ensures { OnOk result ((all : value.Values) → Holds values.old all → Holds values.new (machine.with_composite all words.now)) }
+    ensures { OnOk result ((all : value.Values) → Holds values.old all
+        → Holds values.new (machine.with_composite all words.now)) }
 {
     let [_, id, parts @ ..] = words else {
         return Ok(());
@@ -90,7 +94,8 @@ fn composite(
     values: &BTreeMap<u32, Value>,
     ids: &[u32],
 ) -> Result<Option<Value>, AllocError>
-    ensures { IfOk result (λ found. (all : value.Values) → Holds values.now all → option_map composite_view (machine.parts_of all ids.now) ≡ found) }
+    ensures { IfOk result (λ found. (all : value.Values) → Holds values.now all
+        → option_map composite_view (machine.parts_of all ids.now) ≡ found) }
 {
     let mut words = Some(Items::new(alloc));
     for id in ids {

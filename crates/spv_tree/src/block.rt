@@ -3,8 +3,8 @@ ghost use Rattle.narrow_body_model.specs.declared.grammar.BlockEnd.TheVariants.{
 ghost use Rattle.narrow_body_model.specs.declared.grammar.TreeFault.TheVariants.{BadExit};
 ghost use Rattle.narrow_body_model.specs.Blocks as spec;
 
-use narrow_body_model::grammar::{BlockEnd, End, LoopExits, Scope, TreeFault};
 use limits::NESTING;
+use narrow_body_model::grammar::{BlockEnd, End, LoopExits, Scope, TreeFault};
 use spirv_model::class::Class;
 use spirv_model::{Inst, op};
 use spv_words::class_of;

@@ -9,8 +9,8 @@ mod sequence;
 mod structure;
 mod tree;
 
-pub use narrow_body_model::grammar::{End, TreeFault};
 pub use flat::flatten;
+pub use narrow_body_model::grammar::{End, TreeFault};
 pub use spirv_model::{Inst, Items};
 pub use sqlite_items::Boxed;
 pub use std::alloc::AllocError as Memory;

@@ -1,8 +1,8 @@
 ghost use Rattle.std.specs.Prelude.{◌≡◌, ◌<◌};
 ghost use Rattle.narrow_body_model.specs.Grammar as spec;
 
-use narrow_body_model::grammar::{LoopExits, Scope};
 use limits::NESTING;
+use narrow_body_model::grammar::{LoopExits, Scope};
 
 /// The function's own sequence.
 pub fn main() -> Scope

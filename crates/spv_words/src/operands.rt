@@ -51,7 +51,8 @@ impl<'a> Model for OperandIds<'a> {
 impl<'a> OperandIds<'a> {
     /// The next id, if one is left.
     pub fn next_id(&mut self) -> Option<u32>
-        ensures { MatchOption result ((self.old ≡ []) × (self.new ≡ [])) (λ id. self.old ≡ id ∷ self.new) }
+        ensures { MatchOption result ((self.old ≡ []) × (self.new ≡ [])) (λ id. self.old
+            ≡ id ∷ self.new) }
     {
         while let Some(operand) = self.operands.listed.0 {
             let count = operand_words(operand, self.words)?;
@@ -85,7 +86,8 @@ pub fn ids(inst: &Inst) -> OperandIds<'_>
 
 /// The ids among words of an instruction with these operands.
 fn ids_of<'a>(operands: &Operands, words: &'a [u32]) -> OperandIds<'a>
-    ensures { result ≡ spec.ids_by (spec.kinds_from (spec.listed_of operands.now) operands.now.rest words.now) words.now }
+    ensures { result
+        ≡ spec.ids_by (spec.kinds_from (spec.listed_of operands.now) operands.now.rest words.now) words.now }
 {
     if !fit(operands, words) {
         return OperandIds {
@@ -114,7 +116,8 @@ pub fn ids_are_below(inst: &Inst, bound: u32) -> bool
 
 /// Whether the words fit the operands.
 pub fn fit(operands: &Operands, words: &[u32]) -> bool
-    ensures { result ≡ is_some (spec.kinds_from (spec.listed_of operands.now) operands.now.rest words.now) }
+    ensures { result
+        ≡ is_some (spec.kinds_from (spec.listed_of operands.now) operands.now.rest words.now) }
 {
     let mut left = *operands;
     let mut words = words;
@@ -142,7 +145,8 @@ fn rest_fits(rest: Rest, words: &[u32]) -> bool
 
 /// The operands without the first listed one.
 fn after_first(operands: Operands) -> Operands
-    ensures listed { operands.listed.0 ∷ spec.listed_of result ≡ spec.listed_of operands ++ (None ∷ []) }
+    ensures listed { operands.listed.0 ∷ spec.listed_of result
+        ≡ spec.listed_of operands ++ (None ∷ []) }
     ensures rest { result.rest ≡ operands.rest }
 {
     let (_, second, third, fourth, fifth) = operands.listed;
@@ -207,7 +211,8 @@ fn is_id(operand: Operand) -> bool
 
 /// The first id among words after the listed operands, and the words behind it.
 fn first_of_rest(rest: Rest, words: &[u32]) -> Option<(u32, &[u32])>
-    ensures { MatchOption result (rest_ids rest words.now ≡ []) (λ found. rest_ids rest words.now ≡ found.0 ∷ rest_ids rest found.1.now) }
+    ensures { MatchOption result (rest_ids rest words.now
+        ≡ []) (λ found. rest_ids rest words.now ≡ found.0 ∷ rest_ids rest found.1.now) }
 {
     match rest {
         Rest::Nothing | Rest::LiteralIntegers => None,

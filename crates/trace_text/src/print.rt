@@ -56,7 +56,8 @@ fn push_row(text: &mut Vec<u8>, row: &[u32]) -> Result<(), AllocError>
 }
 
 fn push_others(text: &mut Vec<u8>, words: &[u32]) -> Result<(), AllocError>
-    ensures { OnOk result (text.new.items ≡ text.old.items ++ flat_map (λ word. 32 ∷ word_text word) words.now) }
+    ensures { OnOk result (text.new.items ≡ text.old.items ++ flat_map (λ word. 32
+        ∷ word_text word) words.now) }
 {
     for word in words {
         text.push(b' ')?;
