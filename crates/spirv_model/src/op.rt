@@ -173,6 +173,7 @@ pub const BRANCH: u16 = 249;
 pub const BRANCH_CONDITIONAL: u16 = 250;
 
 pub const SWITCH: u16 = 251;
+
 pub const KILL: u16 = 252;
 
 pub const RETURN: u16 = 253;

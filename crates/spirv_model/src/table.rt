@@ -4,7 +4,9 @@
 use crate::class::{Class, ScalarClass};
 use crate::op;
 use crate::table::Operand::{Fixed, IdRef, IdResult, IdResultType, LiteralInteger, LiteralString};
-use crate::table::Rest::{IdRefs, LiteralIntegers, Nothing, PairsIdRefIdRef, PairsLiteralIntegerIdRef};
+use crate::table::Rest::{
+    IdRefs, LiteralIntegers, Nothing, PairsIdRefIdRef, PairsLiteralIntegerIdRef,
+};
 
 /// The capability that a module may declare (SPIR-V specification, section 3.31 "Capability").
 pub const SHADER: u32 = 1;
