@@ -1,7 +1,7 @@
-ghost use Rattle.std.specs.Prelude.{◌≡◌, ◌≤◌, ◌&&◌, nat_lt, [], ◌∷◌, ◌++◌, length, None, is_some, IfSome, MatchOption};
+ghost use Rattle.std.specs.Prelude.{◌≡◌, ◌≤◌, ◌&&◌, nat_lt, [], length, is_some, IfSome, IfNone};
 ghost use Rattle.std.specs.List.{list_all};
 ghost use Rattle.spirv_model.specs.Operands as spec;
-ghost use Rattle.spv_words.specs.Ids.{rest_ids, ids_left};
+ghost use Rattle.spv_words.specs.Ids.{AreRestIds, IsAfterFirst, TakesFirst, fits, operand_ids, rest_ids};
 
 use crate::table::entry_of;
 use spirv_model::Inst;
@@ -51,8 +51,7 @@ impl<'a> Model for OperandIds<'a> {
 impl<'a> OperandIds<'a> {
     /// The next id, if one is left.
     pub fn next_id(&mut self) -> Option<u32>
-        ensures { MatchOption result ((self.old ≡ []) × (self.new ≡ [])) (λ id. self.old
-            ≡ id ∷ self.new) }
+        ensures { TakesFirst self.old self.new result }
     {
         while let Some(operand) = self.operands.listed.0 {
             let count = operand_words(operand, self.words)?;
@@ -86,8 +85,7 @@ pub fn ids(inst: &Inst) -> OperandIds<'_>
 
 /// The ids among words of an instruction with these operands.
 fn ids_of<'a>(operands: &Operands, words: &'a [u32]) -> OperandIds<'a>
-    ensures { result
-        ≡ spec.ids_by (spec.kinds_from (spec.listed_of operands.now) operands.now.rest words.now) words.now }
+    ensures { result ≡ operand_ids operands.now words.now }
 {
     if !fit(operands, words) {
         return OperandIds {
@@ -116,8 +114,7 @@ pub fn ids_are_below(inst: &Inst, bound: u32) -> bool
 
 /// Whether the words fit the operands.
 pub fn fit(operands: &Operands, words: &[u32]) -> bool
-    ensures { result
-        ≡ is_some (spec.kinds_from (spec.listed_of operands.now) operands.now.rest words.now) }
+    ensures { result ≡ fits operands.now words.now }
 {
     let mut left = *operands;
     let mut words = words;
@@ -145,8 +142,7 @@ fn rest_fits(rest: Rest, words: &[u32]) -> bool
 
 /// The operands without the first listed one.
 fn after_first(operands: Operands) -> Operands
-    ensures listed { operands.listed.0 ∷ spec.listed_of result
-        ≡ spec.listed_of operands ++ (None ∷ []) }
+    ensures listed { IsAfterFirst operands result }
     ensures rest { result.rest ≡ operands.rest }
 {
     let (_, second, third, fourth, fifth) = operands.listed;
@@ -211,8 +207,8 @@ fn is_id(operand: Operand) -> bool
 
 /// The first id among words after the listed operands, and the words behind it.
 fn first_of_rest(rest: Rest, words: &[u32]) -> Option<(u32, &[u32])>
-    ensures { MatchOption result (rest_ids rest words.now
-        ≡ []) (λ found. rest_ids rest words.now ≡ found.0 ∷ rest_ids rest found.1.now) }
+    ensures none { IfNone result (rest_ids rest words.now ≡ []) }
+    ensures first { IfSome result (λ found. AreRestIds rest words.now found.0 found.1.now) }
 {
     match rest {
         Rest::Nothing | Rest::LiteralIntegers => None,

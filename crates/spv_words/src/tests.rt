@@ -5,6 +5,7 @@ use crate::{
 use limits::{MAX_BOUND, MODULE_WORDS};
 use spirv_model::op;
 use std::alloc::{AllocError, Global};
+use std::process::Abort;
 use std::test::Fail;
 
 #[test]
@@ -83,6 +84,38 @@ fn a_module_has_at_most_the_limit_of_words(rt: HostRuntime) -> Result<(), Fail> 
         Some(WordsFault::BadHeader)
     );
     Ok(())
+}
+
+// The words are read as so many instructions, and written back as they are.
+fn reads_and_writes(
+    rt: &impl Abort,
+    alloc: Global,
+    words: &[u32],
+    count: usize,
+) -> Result<(), Fail> {
+    let module = read_module(alloc, words)?;
+    assert_eq!(rt; module.insts.as_slice().len(), count);
+    let written = write_module(alloc, module.insts.as_slice(), module.bound)?;
+    assert_eq!(rt; written.as_slice(), words);
+    Ok(())
+}
+
+#[test]
+fn the_most_instructions_are_read_and_written(rt: HostRuntime) -> Result<(), Fail> {
+    // each word after the header is an OpFunctionEnd of its own
+    let mut words = [0x10038; MODULE_WORDS];
+    let header = [0x7230203, 0x10000, 0, 1, 0];
+    words[..5].copy_from_slice(&header);
+    reads_and_writes(&rt, rt.alloc(), &words, 16_379)
+}
+
+#[test]
+fn the_longest_instruction_is_read_and_written(rt: HostRuntime) -> Result<(), Fail> {
+    // an OpTypeStruct of 16,379 words
+    let mut words = [1; MODULE_WORDS];
+    let front = [0x7230203, 0x10000, 0, 2, 0, 0x3ffb001e];
+    words[..6].copy_from_slice(&front);
+    reads_and_writes(&rt, rt.alloc(), &words, 1)
 }
 
 // What reading answers for these words after a good header.
