@@ -1,9 +1,12 @@
-pub mod Ends
-pub mod Faults
+pub mod Among
+pub mod ArmNumbers
+pub mod CaseLists
+pub mod FaultReasons
 pub mod Fronts
 pub mod LabelMarks
-pub mod Walks
-pub mod Readings
-pub mod ModuleWalks
 pub mod Listings
 pub mod OneTree
+pub mod Readings
+pub mod SwitchEnds
+pub mod WholeTrees
+pub mod TargetTables

@@ -1,4 +1,5 @@
+pub mod Answers
+pub mod Barred
 pub mod Listed
 pub mod Parts
 pub mod Trees
-pub mod Views

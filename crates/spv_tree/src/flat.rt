@@ -1,8 +1,8 @@
 ghost use Rattle.std.specs.Prelude.{◌≡◌, ◌++◌, IfOk, OnOk};
 ghost use Rattle.spv_tree.specs.Trees.{IsTreeOf, function_blocks};
-ghost use Rattle.spv_tree.specs.Listed.{run_list, node_list, choice_list, round_list, way_list, of_block};
+ghost use Rattle.spv_tree.specs.Listed.{run_list, node_list, choice_list, pick_list, round_list, way_list, of_block};
 
-use crate::tree::{Block, Body, Choice, Node, Round, Run};
+use crate::tree::{Block, Body, Choice, Node, Pick, Round, Run};
 use spirv_model::{Inst, Items};
 use std::alloc::{AllocError as Memory, Global};
 
@@ -33,6 +33,7 @@ fn add_node(alloc: Global, node: &Node, insts: &[Inst], list: &mut Vec<Inst>) ->
     match node {
         Node::Block(block) => add_block(alloc, *block, insts, list),
         Node::Choice(choice) => add_choice(alloc, choice.get(), insts, list),
+        Node::Pick(pick) => add_pick(alloc, pick.get(), insts, list),
         Node::Round(round) => add_round(alloc, round.get(), insts, list),
     }
 }
@@ -48,6 +49,16 @@ fn add_choice(
 {
     add_way(alloc, &choice.yes, insts, list)?;
     add_way(alloc, &choice.no, insts, list)?;
+    Ok(())
+}
+
+#[cycle(flat)]
+fn add_pick(alloc: Global, pick: &Pick, insts: &[Inst], list: &mut Vec<Inst>) -> Result<(), Memory>
+    ensures { OnOk result (list.new.items ≡ list.old.items ++ pick_list insts.now pick.now) }
+{
+    for run in pick.arms.as_slice() {
+        add_run(alloc, run, insts, list)?;
+    }
     Ok(())
 }
 

@@ -1,7 +1,9 @@
 //! The structured body of a function: a tree over its flat list of instructions.
 #![tactic(auto)]
 
+mod barred;
 mod block;
+mod cases;
 mod flat;
 mod labels;
 mod scope;
@@ -9,13 +11,13 @@ mod sequence;
 mod structure;
 mod tree;
 
+pub use body_model::{End, TreeFault};
 pub use flat::flatten;
-pub use narrow_body_model::grammar::{End, TreeFault};
 pub use spirv_model::{Inst, Items};
 pub use sqlite_items::Boxed;
 pub use std::alloc::AllocError as Memory;
 pub use structure::tree_of;
-pub use tree::{Block, Body, Choice, Node, Round, Run};
+pub use tree::{Block, Body, Choice, Node, Pick, PickCase, Round, Run};
 
 #[cfg(test)]
 mod tests;

@@ -1,17 +1,35 @@
-ghost use Rattle.std.specs.Prelude.{◌≡◌, ◌<◌};
-ghost use Rattle.narrow_body_model.specs.Grammar as spec;
+//! Where a block stands: what it may have, and where its sequence may go.
+ghost use Rattle.std.specs.Prelude.{◌≡◌, ℕ, ◌+◌, ◌<◌, List, [], ◌++◌};
+ghost use Rattle.body_model.specs.Scope as spec;
+ghost use Rattle.spv_tree.specs.Barred.{with_barred};
 
+use body_model::{LoopExits, Phis};
 use limits::NESTING;
-use narrow_body_model::grammar::{LoopExits, Scope};
+
+/// A scope of the grammar without its barred labels.
+#[derive(Clone, Copy, Drop)]
+pub struct Scope {
+    pub phis: Phis,
+    pub first: bool,
+    pub merge: Option<u32>,
+    pub leave: Option<u32>,
+    pub exits: Option<LoopExits>,
+    pub header: Option<u32>,
+    pub test: Option<u32>,
+    pub may_loop: bool,
+    pub may_end: bool,
+    pub depth: u32,
+}
 
 /// The function's own sequence.
 pub fn main() -> Scope
-    ensures { result ≡ spec.main }
+    ensures { with_barred result [] ≡ spec.main }
 {
     Scope {
-        phis: false,
+        phis: Phis::Nowhere,
         first: true,
         merge: None,
+        leave: None,
         exits: None,
         header: None,
         test: None,
@@ -21,23 +39,34 @@ pub fn main() -> Scope
     }
 }
 
-/// The sequence goes on behind a block or a loop.
-pub fn later(scope: Scope) -> Scope
-    ensures { result ≡ spec.later scope }
+/// The sequence goes on at the block behind one.
+pub fn behind_block(scope: Scope) -> Scope
+    ensures { (barred : List ℕ) → with_barred result barred ≡ spec.behind_block (with_barred scope barred) }
 {
     Scope {
-        phis: false,
+        phis: Phis::AtHeader,
         first: false,
         ..scope
     }
 }
 
-/// The sequence goes on at a selection's merge block.
-pub fn merged(scope: Scope) -> Scope
-    ensures { result ≡ spec.merged scope }
+/// The sequence goes on at the merge block of a selection or an OpSwitch.
+pub fn behind_selection(scope: Scope) -> Scope
+    ensures { (barred : List ℕ) → with_barred result barred ≡ spec.behind_selection (with_barred scope barred) }
 {
     Scope {
-        phis: true,
+        phis: Phis::Anywhere,
+        first: false,
+        ..scope
+    }
+}
+
+/// The sequence goes on at the merge block of a loop.
+pub fn behind_loop(scope: Scope) -> Scope
+    ensures { (barred : List ℕ) → with_barred result barred ≡ spec.behind_loop (with_barred scope barred) }
+{
+    Scope {
+        phis: Phis::Nowhere,
         first: false,
         ..scope
     }
@@ -46,13 +75,47 @@ pub fn merged(scope: Scope) -> Scope
 /// An arm of a selection in the sequence.
 pub fn arm(scope: Scope, merge: u32) -> Scope
     requires { scope.depth < NESTING }
-    ensures { result ≡ spec.arm scope merge }
+    ensures is { (barred : List ℕ) → with_barred result barred ≡ spec.arm (with_barred scope barred) merge }
+    ensures depth { result.depth ≡ scope.depth + 1 }
 {
     Scope {
-        phis: false,
+        phis: Phis::AtHeader,
         first: false,
         merge: Some(merge),
+        leave: scope.leave,
         exits: scope.exits,
+        header: None,
+        test: None,
+        may_loop: scope.may_loop,
+        may_end: scope.may_end,
+        depth: scope.depth + 1,
+    }
+}
+
+/// An arm of an OpSwitch in the sequence, whose other arms bar their labels.
+pub fn switch_arm(scope: Scope, merge: u32) -> Scope
+    requires { scope.depth < NESTING }
+    ensures is { (others barred : List ℕ) → with_barred result (others ++ barred) ≡ spec.switch_arm (with_barred scope barred) merge others }
+    ensures depth { result.depth ≡ scope.depth + 1 }
+{
+    Scope {
+        leave: Some(merge),
+        ..arm(scope, merge)
+    }
+}
+
+/// A part of a loop in the sequence: nothing but what the part itself allows leads out of it.
+fn loop_part(scope: Scope) -> Scope
+    requires { scope.depth < NESTING }
+    ensures is { (barred : List ℕ) → with_barred result barred ≡ spec.loop_part (with_barred scope barred) }
+    ensures depth { result.depth ≡ scope.depth + 1 }
+{
+    Scope {
+        phis: Phis::Nowhere,
+        first: false,
+        merge: None,
+        leave: None,
+        exits: None,
         header: None,
         test: None,
         may_loop: scope.may_loop,
@@ -64,53 +127,39 @@ pub fn arm(scope: Scope, merge: u32) -> Scope
 /// The condition sequence of a loop in the sequence.
 pub fn condition(scope: Scope, merge: u32) -> Scope
     requires { scope.depth < NESTING }
-    ensures { result ≡ spec.condition scope merge }
+    ensures is { (barred : List ℕ) → with_barred result barred ≡ spec.condition (with_barred scope barred) merge }
+    ensures depth { result.depth ≡ scope.depth + 1 }
 {
     Scope {
-        phis: false,
-        first: false,
-        merge: None,
-        exits: None,
-        header: None,
+        phis: Phis::AtHeader,
         test: Some(merge),
         may_loop: false,
         may_end: false,
-        depth: scope.depth + 1,
+        ..loop_part(scope)
     }
 }
 
 /// The body of a loop in the sequence.
 pub fn body(scope: Scope, merge: u32, next: u32) -> Scope
     requires { scope.depth < NESTING }
-    ensures { result ≡ spec.body scope merge next }
+    ensures is { (barred : List ℕ) → with_barred result barred ≡ spec.body (with_barred scope barred) merge next }
+    ensures depth { result.depth ≡ scope.depth + 1 }
 {
     Scope {
-        phis: false,
-        first: false,
-        merge: None,
         exits: Some(LoopExits { merge, next }),
-        header: None,
-        test: None,
-        may_loop: scope.may_loop,
-        may_end: scope.may_end,
-        depth: scope.depth + 1,
+        ..loop_part(scope)
     }
 }
 
 /// The continue sequence of a loop in the sequence.
 pub fn continuing(scope: Scope, header: u32) -> Scope
     requires { scope.depth < NESTING }
-    ensures { result ≡ spec.continuing scope header }
+    ensures is { (barred : List ℕ) → with_barred result barred ≡ spec.continuing (with_barred scope barred) header }
+    ensures depth { result.depth ≡ scope.depth + 1 }
 {
     Scope {
-        phis: false,
-        first: false,
-        merge: None,
-        exits: None,
         header: Some(header),
-        test: None,
-        may_loop: scope.may_loop,
         may_end: false,
-        depth: scope.depth + 1,
+        ..loop_part(scope)
     }
 }

@@ -1,17 +1,20 @@
 ghost use Rattle.std.specs.Prelude.{◌≡◌, ◌<◌, ◌^◌, length, IfOk, IfErr};
-ghost use Rattle.basics.specs.Answer.{FindsFault};
-ghost use Rattle.narrow_body_model.specs.declared.grammar.TreeFault.TheVariants.{Memory};
-ghost use Rattle.narrow_body_model.specs.Grammar.{Derives};
-ghost use Rattle.narrow_body_model.specs.TreeFaults.{tree_fault, is_memory};
+ghost use Rattle.basics.specs.Answer.{UnlessMemory};
+ghost use Rattle.body_model.specs.declared.fault.TreeFault.{TreeFault};
+ghost use Rattle.body_model.specs.declared.fault.TreeFault.TheVariants.{Memory};
+ghost use Rattle.body_model.specs.Grammar.{Derives};
+ghost use Rattle.body_model.specs.Faults.{HasFault};
+ghost use Rattle.spv_tree.specs.Answers.{is_memory};
 ghost use Rattle.spv_tree.specs.Trees.{IsTreeOf};
 ghost use Rattle.spv_tree.specs.Parts.{FindsFunction, FindsEnd};
 
+use crate::barred::switch_targets;
 use crate::block::is_module_level;
 use crate::labels::repeated_labels;
 use crate::scope;
-use crate::sequence::sequence;
+use crate::sequence::{Tables, sequence};
 use crate::tree::Body;
-use narrow_body_model::grammar::TreeFault;
+use body_model::TreeFault;
 use spirv_model::{Inst, op};
 use std::alloc::Global;
 
@@ -20,14 +23,18 @@ use std::alloc::Global;
 pub fn tree_of(alloc: Global, insts: &[Inst]) -> Result<Body, TreeFault>
     requires { length insts.now < 2 ^ 32 }
     ensures derived { IfOk result (λ body. IsTreeOf insts.now body) }
-    ensures fault { FindsFault is_memory (tree_fault insts.now) result }
+    ensures fault { UnlessMemory is_memory (λ body. Derives insts.now) (HasFault insts.now) result }
     ensures exact { Derives insts.now → IfErr result (λ fault. fault ≡ Memory) }
+    ensures only { (fault : TreeFault) → HasFault insts.now fault
+        → UnlessMemory is_memory (λ body. ⊥) (λ answer. answer ≡ fault) result }
 {
     let first = function(insts)?;
     let repeated = repeated_labels(alloc, insts)?;
-    let part = sequence(alloc, insts, &repeated, scope::main(), None, first + 1)?;
-    closed(insts, part.place)?;
-    Ok(Body { run: part.run })
+    let targets = switch_targets(alloc, insts)?;
+    let tables = Tables { repeated, targets };
+    let read = sequence(alloc, insts, &tables, &[], scope::main(), None, first + 1)?;
+    closed(insts, read.place)?;
+    Ok(Body { run: read.run })
 }
 
 /// The place of OpFunction, with nothing but the module's level before it.

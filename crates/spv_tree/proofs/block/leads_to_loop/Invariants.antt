@@ -1,5 +1,5 @@
 use Rattle.std.proofs.Common.{◌≡◌, length}
-use Rattle.narrow_body_model.specs.Blocks.{leads_to_loop}
+use Rattle.body_model.specs.Blocks.{leads_to_loop}
 use Rattle.spv_tree.proofs.block.leads_to_loop.Given as goal
 
 abbrev pub invariant-loop-inst : goal.invariant-loop-inst

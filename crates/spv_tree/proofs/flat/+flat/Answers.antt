@@ -1,8 +1,8 @@
 use Rattle.std.proofs.Common.{ap, sym, refl, ◌∙◌, ◌++◌}
-use Rattle.spv_tree.specs.Listed.{of_block, node_list, choice_list, round_list, run_list, way_list}
+use Rattle.spv_tree.specs.Listed.{of_block, node_list, choice_list, pick_list, round_list, run_list, way_list}
 use Rattle.spv_tree.specs.declared.tree.Choice.{out-Choice}
 use Rattle.spv_tree.specs.declared.tree.Round.{out-Round}
-use Rattle.spv_tree.proofs.Listings.{block_listed, choice_node, round_node, choice_out, round_out, node_added, run_added, two_added, part_added}
+use Rattle.spv_tree.proofs.Listings.{block_listed, choice_node, pick_node, round_node, choice_out, round_out, node_added, run_added, arm_added, pick_added, two_added, part_added}
 use Rattle.spv_tree.proofs.flat.+flat.Goals as goal
 
 pub add_node-returns-in-Block : goal.add_node-returns-in-Block
@@ -16,6 +16,12 @@ add_node-returns-in-Choice t c =
     let insts = c.args.insts.now in
     part_added c.add_choice.result c.args.list.now.items c.add_choice.new.list.items (choice_list insts c.get.result.now) (node_list insts c.args.node.now)
     (ap (choice_list insts) c.get.ensures ∙ sym (ap (node_list insts) c.in-Choice.is ∙ choice_node insts c.in-Choice.choice)) c.add_choice.ensures
+
+pub add_node-returns-in-Pick : goal.add_node-returns-in-Pick
+add_node-returns-in-Pick t c =
+    let insts = c.args.insts.now in
+    part_added c.add_pick.result c.args.list.now.items c.add_pick.new.list.items (pick_list insts c.get-in-Pick.result.now) (node_list insts c.args.node.now)
+    (ap (pick_list insts) c.get-in-Pick.ensures ∙ sym (ap (node_list insts) c.in-Pick.is ∙ pick_node insts c.in-Pick.pick)) c.add_pick.ensures
 
 pub add_node-returns-in-Round : goal.add_node-returns-in-Round
 add_node-returns-in-Round t c =
@@ -50,3 +56,13 @@ pub add_run-returns : goal.add_run-returns
 add_run-returns t c =
     run_added c.args.insts.now c.as_slice-node-items.result.now c.loop-node.node-index c.args.run.now c.args.list.now.items c.loop-node.list.items
     c.loop-node-test.false c.as_slice-node-items.ensures c.loop-node.invariant
+
+pub add_pick-loop-run-preserved : goal.add_pick-loop-run-preserved
+add_pick-loop-run-preserved t c =
+    arm_added c.args.insts.now c.as_slice-run-items.result.now c.loop-run.run-index c.run-item.result c.args.list.now.items c.loop-run.list.items c.add_run.new.list.items
+    c.loop-run-test.true c.run-item.is c.loop-run.invariant c.in_ok-add_run.ensures
+
+pub add_pick-returns : goal.add_pick-returns
+add_pick-returns t c =
+    pick_added c.args.insts.now c.as_slice-run-items.result.now c.loop-run.run-index c.args.pick.now c.args.list.now.items c.loop-run.list.items
+    c.loop-run-test.false c.as_slice-run-items.ensures c.loop-run.invariant

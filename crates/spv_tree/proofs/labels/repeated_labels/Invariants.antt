@@ -1,7 +1,7 @@
 use Rattle.std.proofs.Common.{◌≡◌, ℕ, ◌<◌, false, get_or, take, length}
 use Rattle.std.specs.Ordering.{nat_cmp}
 use Rattle.std.specs.BTreeSet.{contains}
-use Rattle.narrow_body_model.specs.Blocks.{has_label}
+use Rattle.body_model.specs.Due.{has_label}
 use Rattle.spv_tree.specs.Parts.{repeats}
 use Rattle.spv_tree.proofs.labels.repeated_labels.Given as goal
 
