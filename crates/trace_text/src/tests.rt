@@ -73,7 +73,9 @@ fn with_width(alloc: Global, width: &str) -> Result<Vec<u8>, AllocError> {
         return Ok(text);
     };
     let (before, after) = TRACE.split_at(at + 12);
-    let (_, rest) = after.split_at(1);
+    let Some((_, rest)) = after.split_first() else {
+        return Ok(text);
+    };
     text.extend_from_slice(before)?;
     text.extend_from_slice(width.as_bytes())?;
     text.extend_from_slice(rest)?;
