@@ -2,12 +2,11 @@
 use Rattle.std.proofs.Common.{◌≡◌, ℕ, true, false, List, [], ◌∷◌, map, replicate, refl}
 use Rattle.std.specs.Prelude.{None, Some, Option}
 use Rattle.state_model.specs.declared.parts.Entry.{Entry}
-use Rattle.state_model.specs.declared.parts.SpecValues.{SpecValues}
 use Rattle.state_model.specs.declared.buffers.Buffers.{Buffers}
 use Rattle.stage_model.specs.declared.inputs.Inputs.{Inputs}
 use Rattle.stage_model.specs.declared.outcome.Kind.TheVariants.{Done}
 use Rattle.stage_model.specs.declared.inputs.Inputs.{Inputs}
-use Rattle.stage_model.specs.declared.outcome.Kind.TheVariants.{Done, Killed, Lost}
+use Rattle.stage_model.specs.declared.outcome.Kind.TheVariants.{Done}
 use Rattle.scalar_model.specs.Scalars.{scalar_result, word_from_word, arithmetic, bitwise, comparison, truth_from_truth, truth_from_truths}
 use Rattle.valid_model.specs.Meanings.{known_by, known_after, known_of}
 use Rattle.valid_model.specs.Types.{type_of}
