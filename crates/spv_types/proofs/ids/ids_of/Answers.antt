@@ -1,7 +1,8 @@
 use Rattle.std.proofs.Common.{List, sym, subst, ◌∙◌}
 use Rattle.spirv_model.specs.declared.module.Inst.{Inst}
 use Rattle.spv_types.specs.Decorated.{AreDecorationsOf}
-use Rattle.spv_types.proofs.FirstFaults.{fails_by, meanings}
+use Rattle.spv_types.specs.Tables.{HasPlaces}
+use Rattle.spv_types.proofs.FirstFaults.{fails_by, meanings, sizes}
 use Rattle.spv_types.proofs.ids.ids_of.Goals as goal
 
 pub returns-in-Some : goal.returns-in-Some
@@ -14,6 +15,9 @@ returns c =
     record {
       sound = sym c.in_ok-fault.ensures ∙ c.in-None.is;
       meanings = meanings c.args.words.now c.in_ok-pass.pass c.in_ok-pass.ensures;
+      places =
+          subst (λ (insts : List Inst). HasPlaces c.in_ok-places.places insts) c.as_slice-insts.ensures c.in_ok-places.ensures;
+      sizes = sizes c.args.words.now c.in_ok-pass.pass c.in_ok-pass.ensures;
       decorations = are.words;
       offsets = are.offsets;
     }
