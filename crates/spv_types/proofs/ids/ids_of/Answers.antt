@@ -8,8 +8,8 @@ use Rattle.spv_types.proofs.ids.ids_of.Goals as goal
 pub returns-in-Some : goal.returns-in-Some
 returns-in-Some c = fails_by c.args.words.now c.in-Some.fault (sym c.in_ok-fault.ensures ∙ c.in-Some.is)
 
-pub returns : goal.returns
-returns c =
+pub returns-in-None : goal.returns-in-None
+returns-in-None c =
     let are : AreDecorationsOf c.args.words.now.insts c.in_ok-decorations.decorations =
     subst (λ (insts : List Inst). AreDecorationsOf insts c.in_ok-decorations.decorations) c.as_slice-insts.ensures c.in_ok-decorations.ensures in
     record {
