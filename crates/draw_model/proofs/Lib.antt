@@ -1,2 +1,3 @@
 mod Samples
 mod TopLeft
+mod Worked
