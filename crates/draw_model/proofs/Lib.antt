@@ -1,3 +1,5 @@
+pub mod Entries
 mod Samples
+pub mod StageGiven
 mod TopLeft
 mod Worked
