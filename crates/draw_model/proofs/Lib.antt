@@ -1,3 +1,4 @@
+mod CanonicalDraws
 pub mod Entries
 mod Samples
 pub mod StageGiven

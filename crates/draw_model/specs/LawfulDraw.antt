@@ -1,5 +1,8 @@
 -- The draws that may be asked: a lawful state, modules of its stages, numbers below their counts, and words of 32 bits.
-use Rattle.std.specs.Prelude.{◌≡◌, ◌↔◌, ◌⊎◌, ℕ, ◌+◌, ◌^◌, ◌==◌, ◌<◌, ◌≤◌, List, Option, Some, length, slice_index, IfSome, IsNone, IsTrue}
+use Rattle.spirv_model.specs.declared.decoration.TheConstants.{SPEC_ID}
+use Rattle.valid_model.specs.DecorationWords.{decoration_of}
+use Rattle.state_model.specs.Canonical.{is_declared}
+use Rattle.std.specs.Prelude.{◌≡◌, true, ◌↔◌, ◌⊎◌, ℕ, ◌+◌, ◌^◌, ◌==◌, ◌<◌, ◌≤◌, List, Option, Some, length, slice_index, IfSome, IsNone, IsTrue}
 use Rattle.std.specs.List.{All, find}
 use Rattle.std.specs.Option.{option_map}
 use Rattle.limits.specs.declared.TheConstants.{MAX_SIDE, COMPONENTS, VERTEX_BINDINGS, DESCRIPTOR_SETS, DESCRIPTOR_BINDINGS, ATTACHMENTS, PUSH_WORDS}
@@ -27,6 +30,10 @@ AreWords words = All IsWord words
 -- the first OpEntryPoint of the module has this execution model
 abbrev pub HasModel : ℕ → List Inst → Type 0
 HasModel model insts = option_map (λ (inst : Inst). slice_index inst.words 0) (find (λ (inst : Inst). inst.op == ENTRY_POINT) insts) ≡ Some model
+
+-- the SpecIds of the module are among these
+abbrev pub DeclaresAmong : List ℕ → List Inst → Type 0
+DeclaresAmong ids insts = (id word : ℕ) → decoration_of insts id SPEC_ID ≡ Some word → is_declared ids word ≡ true
 
 pub record IsTarget (t : Target) : Type 0 where
   pub first_format : FORMAT_R32_UINT ≤ t.format
