@@ -5,4 +5,5 @@ pub mod Pairs
 mod Samples
 pub mod StageGiven
 mod TopLeft
+mod Unwritten
 mod Worked

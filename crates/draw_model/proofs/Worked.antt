@@ -285,6 +285,11 @@ depth_equal_fails : drawn v2 (Some f1) (tested 1 read_points) with_depth_bound (
 unfolding result entry_of first_label_place scalar_result word_from_word arithmetic bitwise comparison truth_from_truth truth_from_truths known_by known_after known_of type_of decoration_of offset_of program_of layouts_by held_layout block_offsets constant_of defined_by first_memory operation class_of read_ids result_of effect_of read_values done step start_at position_left slots_left stage is_covered is_guarded edge_value is_top_or_left is_inside is_inside_all triangle_covers input_at stored_pixel invoked vertex_inputs fragment_inputs sample_place sample_words with_sample with_target usable depth_test write_at after_location after_sample vertex_outcome primitives fragments_of fragments fragment_stage fragment_outcome after_outcome image effort
 depth_equal_fails = refl
 
+-- it is above the old one, which stays
+depth_above_fails : drawn v2 (Some f1) (tested 1 read_points) with_depth_bound (vertices 1) (buffer (128 ∷ 128 ∷ 5 ∷ 0 ∷ [])) (two (target 2 1 (0 ∷ 0 ∷ [])) (depth_target 2 1 (4 ∷ 4 ∷ []))) ≡ ((0 ∷ 0 ∷ []) ∷ (4 ∷ 4 ∷ []) ∷ [], 7)
+unfolding result entry_of first_label_place scalar_result word_from_word arithmetic bitwise comparison truth_from_truth truth_from_truths known_by known_after known_of type_of decoration_of offset_of program_of layouts_by held_layout block_offsets constant_of defined_by first_memory operation class_of read_ids result_of effect_of read_values done step start_at position_left slots_left stage is_covered is_guarded edge_value is_top_or_left is_inside is_inside_all triangle_covers input_at stored_pixel invoked vertex_inputs fragment_inputs sample_place sample_words with_sample with_target usable depth_test write_at after_location after_sample vertex_outcome primitives fragments_of fragments fragment_stage fragment_outcome after_outcome image effort
+depth_above_fails = refl
+
 -- it is at most the old one, and is stored
 depth_less_or_equal : drawn v2 (Some f1) (tested 3 read_points) with_depth_bound (vertices 1) (buffer (128 ∷ 128 ∷ 5 ∷ 0 ∷ [])) (two (target 2 1 (0 ∷ 0 ∷ [])) (depth_target 2 1 (6 ∷ 6 ∷ []))) ≡ ((42 ∷ 0 ∷ []) ∷ (5 ∷ 6 ∷ []) ∷ [], 7)
 unfolding result entry_of first_label_place scalar_result word_from_word arithmetic bitwise comparison truth_from_truth truth_from_truths known_by known_after known_of type_of decoration_of offset_of program_of layouts_by held_layout block_offsets constant_of defined_by first_memory operation class_of read_ids result_of effect_of read_values done step start_at position_left slots_left stage is_covered is_guarded edge_value is_top_or_left is_inside is_inside_all triangle_covers input_at stored_pixel invoked vertex_inputs fragment_inputs sample_place sample_words with_sample with_target usable depth_test write_at after_location after_sample vertex_outcome primitives fragments_of fragments fragment_stage fragment_outcome after_outcome image effort
