@@ -1,9 +1,9 @@
 -- Modules that agree with a pipeline's own ones, and have no specialization constants, give the same image.
-use Rattle.std.proofs.Common.{◌≡◌, ℕ, ◌+◌, Bool, true, false, cond, List, [], ◌∷◌, map, refl, ap, sym, ◌∙◌, subst}
+use Rattle.std.proofs.Common.{◌≡◌, ℕ, Bool, true, false, cond, List, [], ◌∷◌, map, refl, ap, sym, ◌∙◌, subst}
 use Rattle.std.proofs.Math.Path.{fun_ext}
-use Rattle.std.specs.Prelude.{Option, None, Some, zero, suc, ◌&&◌, not, if◌then◌else◌, is_some, slice_index, slice_index_or, replicate, unwrap_or, take, IfSome}
+use Rattle.std.specs.Prelude.{Option, None, Some, zero, suc, ◌&&◌, not, if◌then◌else◌, is_some, slice_index, slice_index_or, replicate, unwrap_or, IfSome}
 use Rattle.std.specs.Option.{option_map, option_map_or, option_and_then}
-use Rattle.std.specs.List.{fold, flat_map, list_all, range_with_len}
+use Rattle.std.specs.List.{fold, flat_map, range_with_len}
 use Rattle.limits.specs.declared.TheConstants.{LOCATIONS, COMPONENTS, ATTACHMENTS}
 use Rattle.spirv_model.specs.declared.module.Inst.{Inst}
 use Rattle.spirv_model.specs.declared.decoration.TheConstants.{LOCATION}
@@ -15,10 +15,10 @@ use Rattle.state_model.specs.declared.parts.State.{State}
 use Rattle.state_model.specs.Lawful.{present_at}
 use Rattle.stage_model.specs.declared.inputs.Inputs.{Inputs}
 use Rattle.stage_model.specs.declared.outcome.Kind.{Kind}
-use Rattle.stage_model.specs.Program.{Program, program_of}
+use Rattle.stage_model.specs.Program.{program_of}
 use Rattle.stage_model.specs.Start.{Memory}
 use Rattle.stage_model.specs.Machine.{State as MachineState, run}
-use Rattle.stage_model.specs.Stage.{Outcome, Given, stage, start_at, first_label, outcome_of, enough_steps, output_with, components_left, slots_left, left_by}
+use Rattle.stage_model.specs.Stage.{Outcome, stage, start_at, first_label, outcome_of, enough_steps, output_with, components_left, slots_left, left_by}
 use Rattle.draw_model.specs.declared.command.Dynamic.{Dynamic}
 use Rattle.draw_model.specs.declared.command.DrawCall.{DrawCall}
 use Rattle.draw_model.specs.declared.framebuffer.Targets.{Targets}
@@ -26,7 +26,7 @@ use Rattle.draw_model.specs.Invocation.{Fragment, is_drawn, writes, invoked, no_
 use Rattle.draw_model.specs.TargetWords.{usable, sample_words, with_sample}
 use Rattle.draw_model.specs.SampleWrites.{FragmentStage, DepthTest, Write, has_output, depth_test, goes_on, with_depth, write_at, with_write, after_location, after_sample, samples_of}
 use Rattle.draw_model.specs.WholeDraw.{vertex_outcome, vertices_of, primitive_count, primitives, corners_of, is_whole, is_front, is_culled, layers_of, first_slots, covered_in, rows_of, fragments_of, fragments, fragment_stage, fragment_outcome, after_outcome, after_fragment, image}
-use Rattle.draw_model.specs.LawfulDraw.{LawfulDraw, DeclaresAmong}
+use Rattle.draw_model.specs.LawfulDraw.{DeclaresAmong}
 use Rattle.draw_model.specs.Agreement.{no_entries, HasInput, slot, AgreeVertex, AreFed, AgreeFragment, fragment_values, Agree}
 use Rattle.draw_model.proofs.Pairs.{Pairs, pairs_map, pairs_each, pairs_flat, pairs_fold}
 use Rattle.draw_model.proofs.StageGiven.{SaySame, entries_same, slots_same}
@@ -162,7 +162,12 @@ fragments_with state dynamic corners whole slots =
     let front = is_front state.vertex.topology state.prerast.ccw corners in
     if whole && not (is_culled state.vertex.topology state.prerast.cull front)
     then flat_map (λ layer. flat_map (λ y. map (λ x. record {
-      layer = layer; x = x; y = y; depth = slice_index (slice_index_or corners 0 []) 2; front = front; slots = slots;
+      layer = layer;
+      x = x;
+      y = y;
+      depth = slice_index (slice_index_or corners 0 []) 2;
+      front = front;
+      slots = slots;
     }) (covered_in state dynamic corners y)) (rows_of dynamic)) (layers_of state.prerast.view_mask)
     else []
 
@@ -178,8 +183,14 @@ with_alike vs fs state dynamic corners whole a b alike =
   where
     at : (slots : List (List ℕ)) (layer y x : ℕ) → Fragment
     at slots layer y x = record {
-      layer = layer; x = x; y = y; depth = slice_index (slice_index_or corners 0 []) 2; front = is_front state.vertex.topology state.prerast.ccw corners; slots = slots;
+      layer = layer;
+      x = x;
+      y = y;
+      depth = slice_index (slice_index_or corners 0 []) 2;
+      front = is_front state.vertex.topology state.prerast.ccw corners;
+      slots = slots;
     }
+
     by_test : (drawn : Bool) → Pairs (AlikeFragments vs fs)
         (cond drawn (flat_map (λ layer. flat_map (λ y. map (at a layer y) (covered_in state dynamic corners y)) (rows_of dynamic)) (layers_of state.prerast.view_mask)) [])
         (cond drawn (flat_map (λ layer. flat_map (λ y. map (at b layer y) (covered_in state dynamic corners y)) (rows_of dynamic)) (layers_of state.prerast.view_mask)) [])
@@ -193,9 +204,9 @@ fragments_alike : (vs fs : List Inst) (state : State) (dynamic : Dynamic) (xs ys
     Pairs (AlikeFragments vs fs) (fragments_of state dynamic xs) (fragments_of state dynamic ys)
 fragments_alike vs fs state dynamic xs ys h =
     let same : fragments_of state dynamic xs ≡ fragments_with state dynamic (corners_of ys) (is_whole ys) (first_slots xs) =
-        fragments_are state dynamic xs
-        ∙ ap (λ (corners : List (List ℕ)). fragments_with state dynamic corners (is_whole xs) (first_slots xs)) (same_corners vs fs xs ys h)
-        ∙ ap (λ (whole : Bool). fragments_with state dynamic (corners_of ys) whole (first_slots xs)) (same_wholeness vs fs xs ys h) in
+    fragments_are state dynamic xs
+    ∙ ap (λ (corners : List (List ℕ)). fragments_with state dynamic corners (is_whole xs) (first_slots xs)) (same_corners vs fs xs ys h)
+    ∙ ap (λ (whole : Bool). fragments_with state dynamic (corners_of ys) whole (first_slots xs)) (same_wholeness vs fs xs ys h) in
     let alike = with_alike vs fs state dynamic (corners_of ys) (is_whole ys) (first_slots xs) (first_slots ys) (first_alike vs fs xs ys h) in
     let first = subst (λ (of : List Fragment). Pairs (AlikeFragments vs fs) of (fragments_with state dynamic (corners_of ys) (is_whole ys) (first_slots ys))) (sym same) alike in
     subst (λ (of : List Fragment). Pairs (AlikeFragments vs fs) (fragments_of state dynamic xs) of) (sym (fragments_are state dynamic ys)) first
@@ -261,10 +272,10 @@ location_same : (part : FragmentPart) (output : OutputPart) (a b : List Inst) �
 unfolding after_location write_at
 location_same part output a b same dynamic f left sample targets location =
     ap (λ (has : Bool). with_write output.logic (if has then
-      option_and_then (λ attachment. option_and_then (λ number. option_map
-      (λ target. record { attachment = attachment; number = number; target = target })
-      (usable targets attachment.format output.multisample.samples f number)) (present_at dynamic.colour location))
-      (present_at output.attachments location)
+    option_and_then (λ attachment. option_and_then (λ number. option_map
+    (λ target. record { attachment = attachment; number = number; target = target })
+    (usable targets attachment.format output.multisample.samples f number)) (present_at dynamic.colour location))
+    (present_at output.attachments location)
     else None) f (slice_index_or left location []) sample targets) (same location)
 
 sample_same : (part : FragmentPart) (output : OutputPart) (a b : List Inst) → ((location : ℕ) → has_output a location ≡ has_output b location) →
@@ -311,9 +322,9 @@ fragment_same part output vs own new agree among dynamic buffers targets f g ali
     let given = slots_given dynamic g in
     let fed : AreFed vs inputs = subst (Fed vs) (sym given) alike.slots.fed in
     let outcome : invoked new part.entries buffers (fragment_inputs dynamic f) ≡ invoked new no_entries buffers inputs =
-        entries_same new part.entries no_entries buffers (fragment_inputs dynamic f) (says_nothing new part.entries no_entries among)
-        ∙ ap (invoked new no_entries buffers) (ap (fragment_inputs dynamic) alike.same ∙ fragment_inputs_with dynamic g f.slots)
-        ∙ sym (slots_same new no_entries buffers inputs f.slots (λ location has. ap (λ (s : List (List ℕ)). slot s location) given ∙ sym (alike.slots.read location has))) in
+    entries_same new part.entries no_entries buffers (fragment_inputs dynamic f) (says_nothing new part.entries no_entries among)
+    ∙ ap (invoked new no_entries buffers) (ap (fragment_inputs dynamic) alike.same ∙ fragment_inputs_with dynamic g f.slots)
+    ∙ sym (slots_same new no_entries buffers inputs f.slots (λ location has. ap (λ (s : List (List ℕ)). slot s location) given ∙ sym (alike.slots.read location has))) in
     outcome_written (stage_with part output new) dynamic f targets (invoked new part.entries buffers (fragment_inputs dynamic f))
     ∙ ap (λ (kind : Kind). written (stage_with part output new) dynamic f targets kind (invoked new part.entries buffers (fragment_inputs dynamic f)).slots)
     (ap (λ (o : Outcome). o.kind) outcome ∙ agree.kind buffers inputs fed)

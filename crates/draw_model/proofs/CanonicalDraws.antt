@@ -1,9 +1,9 @@
 -- A lawful draw gives the same image, by the same work, with the canonical form of its state.
-use Rattle.std.proofs.Common.{◌≡◌, ℕ, ◌+◌, ◌<◌, Bool, true, false, cond, List, [], ◌∷◌, map, length, sum, refl, ap, sym, ◌∙◌, subst, arith}
+use Rattle.std.proofs.Common.{◌≡◌, ℕ, ◌+◌, ◌<◌, Bool, true, false, cond, List, [], ◌∷◌, map, sum, refl, ap, sym, ◌∙◌, subst, arith}
 use Rattle.std.proofs.Math.Path.{fun_ext}
 use Rattle.std.specs.Prelude.{Option, None, Some, zero, suc, ◌==◌, ◌&&◌, ◌||◌, not, if◌then◌else◌, slice_get, slice_index, slice_index_or, replicate, IfSome, unwrap_or}
 use Rattle.std.specs.Option.{option_map, option_map_or, option_and_then}
-use Rattle.std.specs.List.{fold, flat_map, list_any, range_with_len}
+use Rattle.std.specs.List.{fold, flat_map, range_with_len}
 use Rattle.std.proofs.lemmas.Option.{slice_get_within, unwrap_or-slice_get}
 use Rattle.std.proofs.lemmas.Bool.Decides.{nat_tests}
 use Rattle.limits.specs.declared.TheConstants.{VERTEX_BINDINGS, COMPONENTS, ATTACHMENTS, LOCATIONS}
@@ -22,7 +22,6 @@ use Rattle.state_model.specs.declared.parts.OutputPart.{OutputPart}
 use Rattle.state_model.specs.declared.parts.State.{State}
 use Rattle.state_model.specs.Lawful.{present_at, IsAttribute, IsVertexPart, IsSpecValues, IsFragmentPart, IsLawful}
 use Rattle.state_model.specs.Canonical.{is_named, canonical_entries, canonical_vertex, canonical_prerast, canonical_fragment, canonical_output, without_copy, canonical}
-use Rattle.stage_model.specs.declared.inputs.Inputs.{Inputs}
 use Rattle.stage_model.specs.Stage.{Outcome}
 use Rattle.draw_model.specs.declared.command.Dynamic.{Dynamic}
 use Rattle.draw_model.specs.declared.command.DrawCall.{DrawCall}
@@ -106,8 +105,13 @@ inputs_same : (v : VertexPart) → IsVertexPart v → (dynamic : Dynamic) (buffe
 unfolding vertex_inputs
 inputs_same v lawful dynamic buffers vertex instance =
     ap (λ (input : ℕ → List ℕ). record {
-      slots = map input (range_with_len 0 LOCATIONS); vertex_index = vertex; instance_index = instance; frag_coord = replicate COMPONENTS 0;
-      front = false; push = dynamic.push; uniforms = dynamic.uniforms;
+      slots = map input (range_with_len 0 LOCATIONS);
+      vertex_index = vertex;
+      instance_index = instance;
+      frag_coord = replicate COMPONENTS 0;
+      front = false;
+      push = dynamic.push;
+      uniforms = dynamic.uniforms;
     })
     (fun_ext (λ location. input_same v lawful buffers dynamic.vertex location vertex instance))
 
@@ -150,7 +154,12 @@ abbrev fragments_by : State → Dynamic → List Outcome → (front culled : Boo
 fragments_by state dynamic outcomes front culled mask =
     if is_whole outcomes && not culled
     then flat_map (λ layer. flat_map (λ y. map (λ x. record {
-      layer = layer; x = x; y = y; depth = slice_index (first_position outcomes) 2; front = front; slots = first_slots outcomes;
+      layer = layer;
+      x = x;
+      y = y;
+      depth = slice_index (first_position outcomes) 2;
+      front = front;
+      slots = first_slots outcomes;
     }) (covered_in state dynamic (corners_of outcomes) y)) (rows_of dynamic)) (layers_of mask)
     else []
 

@@ -49,9 +49,10 @@ apart_from o (x ∷ xs) h = (h 0 x (omega arith), apart_from o xs (λ j d within
 
 pub distinct_from : (xs : List (Option Entry)) → AllPairs HaveDifferentIds xs → AreDistinct xs
 distinct_from [] h = tt
-distinct_from (x ∷ xs) h =
-    (apart_from x xs (λ j d within. h 0 (suc j) d (omega arith) (omega (arith, within))),
-    distinct_from xs (λ i j d before within. h (suc i) (suc j) d (omega (arith, before)) (omega (arith, within))))
+distinct_from (x ∷ xs) h = (
+  apart_from x xs (λ j d within. h 0 (suc j) d (omega arith) (omega (arith, within))),
+  distinct_from xs (λ i j d before within. h (suc i) (suc j) d (omega (arith, before)) (omega (arith, within))),
+)
 
 -- what is dropped has no id
 none_apart : (o : Option Entry) → HaveDifferentIds o None

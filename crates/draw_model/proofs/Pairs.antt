@@ -1,5 +1,5 @@
 -- Two lists whose elements are related one by one.
-use Rattle.std.proofs.Common.{◌≡◌, ℕ, List, [], ◌∷◌, ◌++◌, map, refl, ap, ◌∙◌}
+use Rattle.std.proofs.Common.{◌≡◌, List, [], ◌∷◌, ◌++◌, map, refl, ap, ◌∙◌}
 use Rattle.std.specs.List.{fold, flat_map}
 
 abbrev pub Pairs : {A B : Type 0} → (A → B → Type 0) → List A → List B → Type 0

@@ -72,7 +72,7 @@ unfolding invoked
 entries_same insts a b buffers inputs h =
     let memory = first_memory (program_of insts) inputs buffers in
     let values : (λ first. defined_by (program_of insts) a (take first (program_of insts).insts)) ≡ (λ first. defined_by (program_of insts) b (take first (program_of insts).insts)) =
-        fun_ext (λ first. defined_same (program_of insts) a b (specialized_same insts a b h) (take first (program_of insts).insts)) in
+    fun_ext (λ first. defined_same (program_of insts) a b (specialized_same insts a b h) (take first (program_of insts).insts)) in
     ap (λ (o : Option Outcome). unwrap_or o no_outcome)
     (outcome_is insts (record { entries = a; inputs = inputs; buffers = buffers })
     ∙ ap (λ (v : ℕ → Values). outcome_from insts v memory) values

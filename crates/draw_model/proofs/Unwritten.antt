@@ -1,6 +1,6 @@
 -- What a draw doesn't write: the pixels where none of its primitives is rasterized and covers them.
 use Rattle.std.proofs.Common.{◌≡◌, ◌≢◌, ℕ, ◌+◌, ◌*◌, ◌/◌, ◌<◌, ◌≤◌, Bool, true, false, cond, List, [], ◌∷◌, ◌++◌, map, length, take, refl, ap, sym, ◌∙◌, subst, arith}
-use Rattle.std.specs.Prelude.{Option, None, Some, zero, suc, ◌==◌, ◌&&◌, nat_lt, if◌then◌else◌, slice_get, slice_set, slice_index, slice_index_or, filter}
+use Rattle.std.specs.Prelude.{Option, None, Some, zero, suc, ◌==◌, ◌&&◌, nat_lt, slice_get, slice_set, slice_index, slice_index_or, filter}
 use Rattle.std.specs.Option.{option_map, option_map_or, option_and_then}
 use Rattle.std.specs.List.{fold, flat_map, range_with_len}
 use Rattle.std.proofs.Math.Nat.{mul-add-div_right, div-eq_of_lt, mul-le-mul_right}
@@ -23,7 +23,7 @@ use Rattle.draw_model.specs.declared.framebuffer.TheConstants.{DEPTH_FORMAT}
 use Rattle.draw_model.specs.Coverage.{is_covered}
 use Rattle.draw_model.specs.Pixel.{has_bit, stored_pixel}
 use Rattle.draw_model.specs.SampleWrites.{FragmentStage, DepthTest, Write, has_output, depth_test, goes_on, with_depth, write_at, with_write, after_location, after_sample, samples_of}
-use Rattle.draw_model.specs.WholeDraw.{primitives, corners_of, is_rasterized, layers_of, covered_in, fragment_at, fragments_in, rows_of, fragments_of, fragments, fragment_stage, fragment_outcome, after_outcome, after_fragment, image}
+use Rattle.draw_model.specs.WholeDraw.{primitives, corners_of, is_rasterized, layers_of, fragment_at, fragments_in, rows_of, fragments_of, fragments, fragment_stage, fragment_outcome, after_outcome, after_fragment, image}
 use Rattle.draw_model.proofs.Entries.{same_number}
 use Rattle.draw_model.proofs.Pairs.{Pairs}
 
@@ -305,3 +305,66 @@ outcome_keeps layer x y stage dynamic f targets outcome elsewhere = by_kind (wri
         (filter_every (has_bit stage.output.multisample.mask) (λ sample. sample < stage.output.multisample.samples) (range_with_len 0 stage.output.multisample.samples)
         (below 0 stage.output.multisample.samples stage.output.multisample.samples (omega arith)))
     by_kind false = keep_itself layer x y targets.list
+
+-- ---- where fragments stand
+
+-- the primitive is rasterized and covers the pixel
+abbrev pub draws_at : State → (x y : ℕ) → List Outcome → Bool
+draws_at state x y outcomes = is_rasterized state outcomes && is_covered state.vertex.topology (corners_of outcomes) x y
+
+covered_at : (state : State) (outcomes : List Outcome) (layer x y : ℕ) → is_covered state.vertex.topology (corners_of outcomes) x y ≡ false → (to row : ℕ) (columns : List ℕ) →
+    Every (IsElsewhere layer x y) (map (fragment_at state outcomes to row) (filter (λ column. is_covered state.vertex.topology (corners_of outcomes) column row) columns))
+covered_at state outcomes layer x y uncovered to row [] = tt
+covered_at state outcomes layer x y uncovered to row (column ∷ columns) =
+    by_test (covered_at state outcomes layer x y uncovered to row columns) (is_covered state.vertex.topology (corners_of outcomes) column row) refl
+  where
+    by_test : Every (IsElsewhere layer x y) (map (fragment_at state outcomes to row) (filter (λ column. is_covered state.vertex.topology (corners_of outcomes) column row) columns)) →
+        (covered : Bool) → is_covered state.vertex.topology (corners_of outcomes) column row ≡ covered →
+        Every (IsElsewhere layer x y) (map (fragment_at state outcomes to row)
+        (cond covered (column ∷ filter (λ column. is_covered state.vertex.topology (corners_of outcomes) column row) columns)
+        (filter (λ column. is_covered state.vertex.topology (corners_of outcomes) column row) columns)))
+    by_test rest true h = (
+      (λ layers columns rows.
+          let same : is_covered state.vertex.topology (corners_of outcomes) column row ≡ is_covered state.vertex.topology (corners_of outcomes) x y =
+          ap (λ (n : ℕ). is_covered state.vertex.topology (corners_of outcomes) n row) columns ∙ ap (is_covered state.vertex.topology (corners_of outcomes) x) rows in
+          let no : true ≡ false = sym h ∙ same ∙ uncovered in
+          absurd (cc no)),
+      rest,
+    )
+    by_test rest false h = rest
+
+primitive_elsewhere : (state : State) (dynamic : Dynamic) (layer x y : ℕ) (outcomes : List Outcome) → draws_at state x y outcomes ≡ false →
+    Every (IsElsewhere layer x y) (fragments_of state dynamic outcomes)
+unfolding fragments_of
+primitive_elsewhere state dynamic layer x y outcomes h = by_test (is_rasterized state outcomes) refl
+  where
+    by_test : (drawn : Bool) → is_rasterized state outcomes ≡ drawn → Every (IsElsewhere layer x y)
+        (cond drawn (flat_map (λ to. flat_map (fragments_in state dynamic outcomes to) (rows_of dynamic)) (layers_of state.prerast.view_mask)) [])
+    by_test true drawn =
+        let uncovered : is_covered state.vertex.topology (corners_of outcomes) x y ≡ false =
+        ap (λ (b : Bool). b && is_covered state.vertex.topology (corners_of outcomes) x y) (sym drawn) ∙ h in
+        every_flat (λ to. Unit {0}) (IsElsewhere layer x y) (λ to. flat_map (fragments_in state dynamic outcomes to) (rows_of dynamic)) (layers_of state.prerast.view_mask)
+        (any_of (layers_of state.prerast.view_mask)) (λ to _.
+        every_flat (λ row. Unit {0}) (IsElsewhere layer x y) (fragments_in state dynamic outcomes to) (rows_of dynamic) (any_of (rows_of dynamic)) (λ row _.
+        covered_at state outcomes layer x y uncovered to row (range_with_len (slice_index dynamic.scissor 0) (slice_index dynamic.scissor 2))))
+    by_test false drawn = tt
+
+-- ---- the draw
+
+-- A pixel that no primitive draws at is in each target as it was, in every layer: one that is uncovered, or where only primitives
+-- that are dropped or culled would cover it.
+pub uncovered_is_unwritten : (vs : List Inst) (fs : Option (List Inst)) (state : State) (dynamic : Dynamic) (call : DrawCall) (buffers : Buffers) (targets : Targets) (layer x y : ℕ) →
+    Every (λ outcomes. draws_at state x y outcomes ≡ false) (primitives vs state dynamic call buffers) →
+    KeepPixel layer x y targets (image vs fs state dynamic call buffers targets)
+unfolding image fragments
+uncovered_is_unwritten vs fs state dynamic call buffers targets layer x y h = by_stage (fragment_stage fs state)
+  where
+    by_stage : (o : Option FragmentStage) → KeepPixel layer x y targets (option_map_or
+        (λ (stage : FragmentStage). fold (after_fragment stage dynamic buffers) targets (flat_map (fragments_of state dynamic) (primitives vs state dynamic call buffers))) o targets)
+    by_stage None = keep_itself layer x y targets.list
+    by_stage (Some stage) =
+        fold_keeps layer x y (IsElsewhere layer x y) (after_fragment stage dynamic buffers)
+        (λ now f elsewhere. outcome_keeps layer x y stage dynamic f now (fragment_outcome stage dynamic buffers f) elsewhere)
+        (flat_map (fragments_of state dynamic) (primitives vs state dynamic call buffers)) targets
+        (every_flat (λ outcomes. draws_at state x y outcomes ≡ false) (IsElsewhere layer x y) (fragments_of state dynamic) (primitives vs state dynamic call buffers) h
+        (primitive_elsewhere state dynamic layer x y))
