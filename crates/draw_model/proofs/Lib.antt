@@ -1,9 +1,10 @@
-mod AgreeingDraws
-mod CanonicalDraws
+pub mod AgreeingDraws
+pub mod BoundingBox
+pub mod CanonicalDraws
 pub mod Entries
 pub mod Pairs
 mod Samples
 pub mod StageGiven
 mod TopLeft
-mod Unwritten
+pub mod Unwritten
 mod Worked

@@ -33,7 +33,7 @@ writes Lost = false
 abbrev pub no_slots : List (List ℕ)
 no_slots = replicate LOCATIONS (replicate COMPONENTS 0)
 
--- what is taken for an invocation of a module that has no outcome, as no valid module is: it is lost, and took no step
+-- what is taken for an invocation without an outcome, since its machine is stuck: it is lost, and took no step
 abbrev pub no_outcome : Outcome
 no_outcome = record { kind = Lost; position = replicate COMPONENTS 0; slots = no_slots; back_edges = 0; work = 0 }
 
