@@ -1,4 +1,5 @@
 pub mod AgreeingDraws
+pub mod Assembled
 pub mod BoundingBox
 pub mod CanonicalDraws
 pub mod Entries
