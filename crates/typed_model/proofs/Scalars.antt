@@ -99,10 +99,10 @@ pub record HaveResults (layouts : Layouts) (results : Option (List Value)) : Typ
 abbrev with_first : Option Value → Option (List Value) → Option (List Value)
 with_first first rest = option_and_then (λ first. option_map (λ rest. first ∷ rest) rest) first
 
-none_yet : HaveResults NoLayouts (Some [])
+pub none_yet : HaveResults NoLayouts (Some [])
 none_yet = record { values = []; is = refl; has = refl }
 
-one_more : (layout : Layout) (layouts : Layouts) (first : Option Value) (rest : Option (List Value)) → HasResult layout first → HaveResults layouts rest → HaveResults (LayoutsOf layout layouts) (with_first first rest)
+pub one_more : (layout : Layout) (layouts : Layouts) (first : Option Value) (rest : Option (List Value)) → HasResult layout first → HaveResults layouts rest → HaveResults (LayoutsOf layout layouts) (with_first first rest)
 one_more layout layouts first rest one more = record {
   values = one.value ∷ more.values;
   is = ap (λ (o : Option Value). with_first o rest) one.is ∙ ap (λ (o : Option (List Value)). with_first (Some one.value) o) more.is;
