@@ -12,24 +12,27 @@ use Rattle.valid_model.specs.Knowledge.{is_data}
 use Rattle.basics.proofs.Bools.{first_of_both, second_of_both}
 use Rattle.valid_model.specs.declared.meaning.Meaning.{Meaning}
 use Rattle.valid_model.specs.declared.meaning.Meaning.TheVariants.{Shape as OfShape}
-use Rattle.valid_model.specs.declared.meaning.Shape.TheVariants.{BoolVector, IntVector, Array, Struct}
+use Rattle.valid_model.specs.declared.meaning.Shape.TheVariants.{BoolVector, IntVector, Array, Struct, Pointer as PointerType}
 use Rattle.check_model.specs.declared.components.Component.{Component}
 use Rattle.check_model.specs.declared.components.Component.TheVariants as component
 use Rattle.check_model.specs.declared.components.Components.{Components}
-use Rattle.check_model.specs.CompositeOperands.{is_same_component, is_made_of, count_in, components_of, vector_parts_fit, members_fit, parts_fit, no_component, is_vector_of, shuffle_into, shuffle_fits}
+use Rattle.check_model.specs.CompositeOperands.{is_same_component, is_made_of, count_in, components_of, vector_parts_fit, members_fit, parts_fit, no_component, is_vector_of, shuffle_into, shuffle_fits, part_at, part_along, is_of_type, is_of, whole_of, extract_fits, insert_fits}
+use Rattle.check_model.specs.declared.components.Part.{Part}
+use Rattle.check_model.specs.declared.components.Part.TheVariants as part
+use Rattle.check_model.specs.OperandTypes.{is_pointer}
 use Rattle.check_model.specs.ScalarOperands.{is_truth}
 use Rattle.check_model.specs.Typing.{Typing, type_id, has_type, type_of, components_in}
 use Rattle.stage_model.specs.Value.{Value, Truth, Word, Composite, Pointer, Outside, Parts, NoParts, PartsOf, Layout, OneTruth, OneWord, Several, Layouts, NoLayouts, LayoutsOf, repeated, list_of, parts_from}
 use Rattle.stage_model.specs.Program.{Program, layouts_of}
 use Rattle.stage_model.specs.Operations as operations
-use Rattle.stage_model.specs.Operations.{composite, constructed, is_vector, zero_like, shuffled_component, all_of, shuffled, parts_in}
+use Rattle.stage_model.specs.Operations.{composite, constructed, is_vector, zero_like, shuffled_component, all_of, shuffled, parts_in, extracted, inserted}
 use Rattle.typed_model.specs.Values.{layout_in, layouts_in, HasLayout, IsOfType}
 use Rattle.typed_model.specs.Results.{scalar_layout, vector_layout, layout_of_components, HasResult}
 use Rattle.typed_model.specs.Types.{AreTypes, HasTypes, typing_in, Suits, AllSuit, HasTypedResult}
 use Rattle.typed_model.proofs.Layouts.{truth_of, word_of, several_of, composite_has, front_of, no_parts, both_have, HaveLayouts, same_parts}
 use Rattle.typed_model.proofs.Scalars.{HaveResults, none_yet, one_more, composed}
-use Rattle.typed_model.proofs.TypeLayouts.{same, own_type, components_layout, components_suit, type_has_layout, typed_result, same_component}
-use Rattle.typed_model.proofs.Parts.{with_front}
+use Rattle.typed_model.proofs.TypeLayouts.{same, own_type, components_layout, components_suit, type_has_layout, typed_result, same_component, part_of_type, data_of}
+use Rattle.typed_model.proofs.Parts.{with_front, nowhere, extracted_result, inserted_result}
 
 -- ---- values that all have one layout
 
@@ -272,6 +275,51 @@ shuffle_result program types constant vertex type a b first second literals fit 
 
 -- ---- OpCompositeExtract and OpCompositeInsert
 
--- the whole of an operand
-whole_by : (program : Program) → HasTypes program → (constant : ℕ → Option ℕ) (id : ℕ) (value : Value) (type : ℕ) (layout : Layout) → type_id (program.meaning id) ≡ Some type → program.layout type ≡ Some layout → Suits program constant id value → HasLayout layout value
-whole_by program types constant id value type layout is known suits = type_has_layout program types type value layout known (suits.of_type type is)
+part_no_pointer : (m : Meaning) (index : ℕ) (p : Part) → part_at m index ≡ Some p → is_pointer m ≡ false
+part_no_pointer (OfShape (PointerType class to)) index p is = cc
+part_no_pointer m index p is = refl
+
+next_no_pointer : (typing : Typing) (own index : ℕ) (indices : List ℕ) (p : Part) (next : Option Part) → part_at (typing.meaning own) index ≡ next → part_along typing next indices ≡ Some p → is_pointer (typing.meaning own) ≡ false
+next_no_pointer typing own index indices p None one is = let e = nowhere typing indices in cc
+next_no_pointer typing own index indices p (Some next) one is = part_no_pointer (typing.meaning own) index next one
+
+extract_by : (program : Program) → HasTypes program → (constant : ℕ → Option ℕ) (vertex : Bool) (type composite : ℕ) (indices : List ℕ) (value : Value) (own : Option ℕ) → type_id (program.meaning composite) ≡ own
+    → is_of_type (typing_in program constant vertex) type (part_along (typing_in program constant vertex) (option_map part.Type own) indices) ≡ true → Suits program constant composite value → HasTypedResult program type (extracted indices value)
+extract_by program types constant vertex type composite indices value None is fit suits =
+    let e = nowhere (typing_in program constant vertex) indices in
+    let f : is_of_type (typing_in program constant vertex) type (part_along (typing_in program constant vertex) None indices) ≡ false = ap (is_of_type (typing_in program constant vertex) type) e in cc
+extract_by program types constant vertex type composite [] value (Some own) is fit suits =
+    record { value = value; is = refl; has = subst (λ t. IsOfType program t value) (same own type fit) (suits.of_type own is) }
+extract_by program types constant vertex type composite (index ∷ indices) value (Some own) is fit suits =
+    let p = part_of_type program types constant vertex type _ fit in
+    let isnt = next_no_pointer (typing_in program constant vertex) own index indices p.0 _ refl p.1 in
+    let d = data_of program own value isnt (suits.of_type own is) in
+    let r = extracted_result program types constant vertex (index ∷ indices) (part.Type own) p.0 d.layout value d.known d.has p.1 in
+    typed_result program types type r.layout _ (p.2 ∙ r.known) r.has
+
+pub extract_result : (program : Program) → HasTypes program → (constant : ℕ → Option ℕ) (vertex : Bool) (type composite : ℕ) (indices : List ℕ) (value : Value)
+    → extract_fits (typing_in program constant vertex) type composite indices ≡ true → Suits program constant composite value → HasTypedResult program type (extracted indices value)
+extract_result program types constant vertex type composite indices value fit suits = extract_by program types constant vertex type composite indices value (type_id (program.meaning composite)) refl fit suits
+
+insert_by : (program : Program) → HasTypes program → (constant : ℕ → Option ℕ) (vertex : Bool) (type object composite : ℕ) (indices : List ℕ) (new value : Value) (of_object : Option ℕ) → type_id (program.meaning object) ≡ of_object
+    → type_id (program.meaning composite) ≡ Some type → is_of (typing_in program constant vertex) of_object (part_along (typing_in program constant vertex) (Some (part.Type type)) indices) ≡ true
+    → Suits program constant object new → Suits program constant composite value → HasTypedResult program type (inserted new indices value)
+insert_by program types constant vertex type object composite indices new value None of is fit suits also = cc
+insert_by program types constant vertex type object composite [] new value (Some own) of is fit suits also =
+    record { value = new; is = refl; has = subst (λ t. IsOfType program t new) (sym (same type own fit)) (suits.of_type own of) }
+insert_by program types constant vertex type object composite (index ∷ indices) new value (Some own) of is fit suits also =
+    let p = part_of_type program types constant vertex own _ fit in
+    let isnt = next_no_pointer (typing_in program constant vertex) type index indices p.0 _ refl p.1 in
+    let d = data_of program type value isnt (also.of_type type is) in
+    let r = extracted_result program types constant vertex (index ∷ indices) (part.Type type) p.0 d.layout value d.known d.has p.1 in
+    let fits = type_has_layout program types own new r.layout (p.2 ∙ r.known) (suits.of_type own of) in
+    typed_result program types type d.layout _ d.known (inserted_result program types constant vertex (index ∷ indices) (part.Type type) p.0 d.layout r.layout new value d.known d.has p.1 r.known fits)
+
+pub insert_result : (program : Program) → HasTypes program → (constant : ℕ → Option ℕ) (vertex : Bool) (type object composite : ℕ) (indices : List ℕ) (new value : Value)
+    → insert_fits (typing_in program constant vertex) type object composite indices ≡ true → Suits program constant object new → Suits program constant composite value → HasTypedResult program type (inserted new indices value)
+insert_result program types constant vertex type object composite indices new value fit suits also =
+    let typing = typing_in program constant vertex in
+    let rest = is_of typing (type_id (program.meaning object)) (part_along typing (whole_of typing composite) indices) in
+    let own = own_type program constant vertex type composite (first_of_both (has_type typing type composite) rest fit) in
+    insert_by program types constant vertex type object composite indices new value (type_id (program.meaning object)) refl own
+    (sym (ap (λ (o : Option ℕ). is_of typing (type_id (program.meaning object)) (part_along typing (option_map part.Type o) indices)) own) ∙ second_of_both (has_type typing type composite) rest fit) suits also

@@ -4,3 +4,4 @@ pub mod Scalars
 pub mod TypeLayouts
 pub mod Parts
 pub mod Composites
+pub mod MemoryValues

@@ -93,7 +93,7 @@ array_part : (program : Program) (whole : Layout) (type index count : ℕ) (p : 
 array_part program whole type index count p None known is so = cc
 array_part program whole type index count p (Some element) known is so = repeated_part program whole element index count (part.Type type) p (cc) known so
 
-member_found : (member : Option ℕ) (p : Part) → member_part member ≡ Some p → (id : ℕ) × (member ≡ Some id) × (part.Type id ≡ p)
+pub member_found : (member : Option ℕ) (p : Part) → member_part member ≡ Some p → (id : ℕ) × (member ≡ Some id) × (part.Type id ≡ p)
 member_found None p is = cc
 member_found (Some id) p is = (id, refl, same_some _ _ is)
 
@@ -174,7 +174,7 @@ replaced_has parts all index layout object have at has = record {
 abbrev along : Typing → Part → List ℕ → Option Part
 along typing whole indices = part_along typing (Some whole) indices
 
-nowhere : (typing : Typing) (indices : List ℕ) → part_along typing None indices ≡ None
+pub nowhere : (typing : Typing) (indices : List ℕ) → part_along typing None indices ≡ None
 nowhere typing [] = refl
 nowhere typing (index ∷ indices) = nowhere typing indices
 

@@ -94,7 +94,7 @@ typed_result program types type layout result known r = record { value = r.value
 
 -- ---- the type of an id
 
-word_is : (type : ℕ) (own : Option ℕ) → is_word type own ≡ true → own ≡ Some type
+pub word_is : (type : ℕ) (own : Option ℕ) → is_word type own ≡ true → own ≡ Some type
 word_is type None is = cc
 word_is type (Some own) is = ap Some (same own type is)
 

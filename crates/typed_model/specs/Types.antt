@@ -3,7 +3,7 @@ use Rattle.std.specs.Prelude.{◌≡◌, ℕ, ◌==◌, Bool, true, false, List,
 use Rattle.valid_model.specs.declared.meaning.Shape.{Shape}
 use Rattle.valid_model.specs.declared.meaning.Shape.TheVariants.{BoolVector, IntVector, Pointer}
 use Rattle.valid_model.specs.declared.meaning.Meaning.{Meaning}
-use Rattle.valid_model.specs.declared.meaning.Meaning.TheVariants.{Shape as OfShape}
+use Rattle.valid_model.specs.declared.meaning.Meaning.TheVariants.{Shape as OfShape, Variable}
 use Rattle.valid_model.specs.Knowledge.{is_data}
 use Rattle.check_model.specs.declared.components.Part.{Part}
 use Rattle.check_model.specs.declared.components.Part.TheVariants as part
@@ -14,10 +14,12 @@ use Rattle.stage_model.specs.Program.{Program, layout_of_shape}
 use Rattle.typed_model.specs.Values.{IsOfType}
 use Rattle.typed_model.specs.Results.{scalar_layout}
 
--- types have these meanings and layouts: data have a layout, pointers point to data, and a vector has more than one component
+-- types have these meanings and layouts: data have a layout, a variable's type is a pointer of its class, pointers
+-- point to data, and a vector has more than one component
 pub record AreTypes (meaning : ℕ → Meaning) (layout : ℕ → Option Layout) : Type 0 where
   pub shaped : (id : ℕ) (shape : Shape) → meaning id ≡ OfShape shape → layout id ≡ layout_of_shape layout shape
   pub there : (id : ℕ) → is_data (meaning id) ≡ true → (known : Layout) × (layout id ≡ Some known)
+  pub variable : (id type class : ℕ) → meaning id ≡ Variable type class → (to : ℕ) × (meaning type ≡ OfShape (Pointer class to))
   pub pointee : (id class to : ℕ) → meaning id ≡ OfShape (Pointer class to) → is_data (meaning to) ≡ true
   pub truths : (id count : ℕ) → meaning id ≡ OfShape (BoolVector count) → count == 1 ≡ false
   pub integers : (id count : ℕ) (signed : Bool) → meaning id ≡ OfShape (IntVector count signed) → count == 1 ≡ false
