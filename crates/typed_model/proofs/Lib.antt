@@ -5,3 +5,5 @@ pub mod TypeLayouts
 pub mod Parts
 pub mod Composites
 pub mod MemoryValues
+pub mod Chains
+pub mod ScalarTypes
