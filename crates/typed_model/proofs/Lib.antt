@@ -7,3 +7,4 @@ pub mod Composites
 pub mod MemoryValues
 pub mod Chains
 pub mod ScalarTypes
+pub mod EffectsRun

@@ -1,3 +1,4 @@
+pub mod Effects
 pub mod Results
 pub mod Types
 pub mod Values
