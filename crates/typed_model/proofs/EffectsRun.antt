@@ -31,7 +31,7 @@ use Rattle.typed_model.proofs.ScalarTypes.{scalar_typed, any_typed, all_typed}
 abbrev pub instruction : ℕ → List ℕ → Inst
 instruction opcode words = record { op = opcode; words = words }
 
-gives_result : (program : Program) (memory : Memory) (inst : Inst) (values : List Value) (result : Option Value) → effect_of program memory inst values ≡ option_map Gives result → HasTypedResult program (slice_index inst.words 0) result
+pub gives_result : (program : Program) (memory : Memory) (inst : Inst) (values : List Value) (result : Option Value) → effect_of program memory inst values ≡ option_map Gives result → HasTypedResult program (slice_index inst.words 0) result
     → Runs program memory inst values
 gives_result program memory inst values result is r = record { effect = Gives r.value; is = is ∙ ap (option_map Gives) r.is; typed = r.has }
 
@@ -49,7 +49,7 @@ ReadsSuit program constant opcode before words values = AllSuit program constant
 
 -- ---- memory
 
-load_runs : (program : Program) → HasTypes program → (constant : ℕ → Option ℕ) (vertex : Bool) (memory : Memory) (before : ℕ) (words : List ℕ) (values : List Value) → HasOperands op.LOAD words
+pub load_runs : (program : Program) → HasTypes program → (constant : ℕ → Option ℕ) (vertex : Bool) (memory : Memory) (before : ℕ) (words : List ℕ) (values : List Value) → HasOperands op.LOAD words
     → memory_operands_fit (typing_in program constant vertex) (instruction op.LOAD words) ≡ true → ReadsSuit program constant op.LOAD before words values → Runs program memory (instruction op.LOAD words) values
 unfolding kinds class_of entry_of memory_operands_fit read_ids effect_of result_of
 load_runs program types constant vertex memory before (type ∷ id ∷ pointer ∷ []) (value ∷ []) has fit suit =
@@ -61,7 +61,7 @@ load_runs program types constant vertex memory before (type ∷ id ∷ []) value
 load_runs program types constant vertex memory before (type ∷ []) values has fit suit = cc
 load_runs program types constant vertex memory before [] values has fit suit = cc
 
-store_runs : (program : Program) → HasTypes program → (constant : ℕ → Option ℕ) (vertex : Bool) (memory : Memory) (before : ℕ) (words : List ℕ) (values : List Value) → HasOperands op.STORE words
+pub store_runs : (program : Program) → HasTypes program → (constant : ℕ → Option ℕ) (vertex : Bool) (memory : Memory) (before : ℕ) (words : List ℕ) (values : List Value) → HasOperands op.STORE words
     → memory_operands_fit (typing_in program constant vertex) (instruction op.STORE words) ≡ true → ReadsSuit program constant op.STORE before words values → Runs program memory (instruction op.STORE words) values
 unfolding kinds class_of entry_of memory_operands_fit read_ids effect_of result_of
 store_runs program types constant vertex memory before (pointer ∷ object ∷ []) (value ∷ new ∷ []) has fit suit =
@@ -73,7 +73,7 @@ store_runs program types constant vertex memory before (pointer ∷ object ∷ m
 store_runs program types constant vertex memory before (pointer ∷ []) values has fit suit = cc
 store_runs program types constant vertex memory before [] values has fit suit = cc
 
-chain_runs : (program : Program) → HasTypes program → (constant : ℕ → Option ℕ) (vertex : Bool) (memory : Memory) (before : ℕ) (words : List ℕ) (values : List Value) → HasOperands op.ACCESS_CHAIN words
+pub chain_runs : (program : Program) → HasTypes program → (constant : ℕ → Option ℕ) (vertex : Bool) (memory : Memory) (before : ℕ) (words : List ℕ) (values : List Value) → HasOperands op.ACCESS_CHAIN words
     → memory_operands_fit (typing_in program constant vertex) (instruction op.ACCESS_CHAIN words) ≡ true → ReadsSuit program constant op.ACCESS_CHAIN before words values → Runs program memory (instruction op.ACCESS_CHAIN words) values
 unfolding kinds class_of entry_of memory_operands_fit read_ids effect_of result_of
 chain_runs program types constant vertex memory before (type ∷ id ∷ base ∷ indices) (value ∷ values) has fit suit =
@@ -85,7 +85,7 @@ chain_runs program types constant vertex memory before [] values has fit suit = 
 
 -- ---- composites
 
-construct_runs : (program : Program) → HasTypes program → (constant : ℕ → Option ℕ) (vertex : Bool) (memory : Memory) (before : ℕ) (words : List ℕ) (values : List Value) → HasOperands op.COMPOSITE_CONSTRUCT words
+pub construct_runs : (program : Program) → HasTypes program → (constant : ℕ → Option ℕ) (vertex : Bool) (memory : Memory) (before : ℕ) (words : List ℕ) (values : List Value) → HasOperands op.COMPOSITE_CONSTRUCT words
     → composite_operands_fit (typing_in program constant vertex) (instruction op.COMPOSITE_CONSTRUCT words) ≡ true → ReadsSuit program constant op.COMPOSITE_CONSTRUCT before words values → Runs program memory (instruction op.COMPOSITE_CONSTRUCT words) values
 unfolding kinds class_of entry_of composite_operands_fit read_ids effect_of result_of
 construct_runs program types constant vertex memory before (type ∷ id ∷ parts) values has fit suit =
@@ -93,7 +93,7 @@ construct_runs program types constant vertex memory before (type ∷ id ∷ part
 construct_runs program types constant vertex memory before (type ∷ []) values has fit suit = cc
 construct_runs program types constant vertex memory before [] values has fit suit = cc
 
-extract_runs : (program : Program) → HasTypes program → (constant : ℕ → Option ℕ) (vertex : Bool) (memory : Memory) (before : ℕ) (words : List ℕ) (values : List Value) → HasOperands op.COMPOSITE_EXTRACT words
+pub extract_runs : (program : Program) → HasTypes program → (constant : ℕ → Option ℕ) (vertex : Bool) (memory : Memory) (before : ℕ) (words : List ℕ) (values : List Value) → HasOperands op.COMPOSITE_EXTRACT words
     → composite_operands_fit (typing_in program constant vertex) (instruction op.COMPOSITE_EXTRACT words) ≡ true → ReadsSuit program constant op.COMPOSITE_EXTRACT before words values → Runs program memory (instruction op.COMPOSITE_EXTRACT words) values
 unfolding kinds class_of entry_of composite_operands_fit read_ids effect_of result_of
 extract_runs program types constant vertex memory before (type ∷ id ∷ composite ∷ indices) (value ∷ []) has fit suit =
@@ -104,7 +104,7 @@ extract_runs program types constant vertex memory before (type ∷ id ∷ []) va
 extract_runs program types constant vertex memory before (type ∷ []) values has fit suit = cc
 extract_runs program types constant vertex memory before [] values has fit suit = cc
 
-insert_runs : (program : Program) → HasTypes program → (constant : ℕ → Option ℕ) (vertex : Bool) (memory : Memory) (before : ℕ) (words : List ℕ) (values : List Value) → HasOperands op.COMPOSITE_INSERT words
+pub insert_runs : (program : Program) → HasTypes program → (constant : ℕ → Option ℕ) (vertex : Bool) (memory : Memory) (before : ℕ) (words : List ℕ) (values : List Value) → HasOperands op.COMPOSITE_INSERT words
     → composite_operands_fit (typing_in program constant vertex) (instruction op.COMPOSITE_INSERT words) ≡ true → ReadsSuit program constant op.COMPOSITE_INSERT before words values → Runs program memory (instruction op.COMPOSITE_INSERT words) values
 unfolding kinds class_of entry_of composite_operands_fit read_ids effect_of result_of
 insert_runs program types constant vertex memory before (type ∷ id ∷ object ∷ composite ∷ indices) (new ∷ value ∷ []) has fit suit =
@@ -117,7 +117,7 @@ insert_runs program types constant vertex memory before (type ∷ id ∷ []) val
 insert_runs program types constant vertex memory before (type ∷ []) values has fit suit = cc
 insert_runs program types constant vertex memory before [] values has fit suit = cc
 
-shuffle_runs : (program : Program) → HasTypes program → (constant : ℕ → Option ℕ) (vertex : Bool) (memory : Memory) (before : ℕ) (words : List ℕ) (values : List Value) → HasOperands op.VECTOR_SHUFFLE words
+pub shuffle_runs : (program : Program) → HasTypes program → (constant : ℕ → Option ℕ) (vertex : Bool) (memory : Memory) (before : ℕ) (words : List ℕ) (values : List Value) → HasOperands op.VECTOR_SHUFFLE words
     → composite_operands_fit (typing_in program constant vertex) (instruction op.VECTOR_SHUFFLE words) ≡ true → ReadsSuit program constant op.VECTOR_SHUFFLE before words values → Runs program memory (instruction op.VECTOR_SHUFFLE words) values
 unfolding kinds class_of entry_of composite_operands_fit read_ids effect_of result_of
 shuffle_runs program types constant vertex memory before (type ∷ id ∷ a ∷ b ∷ literals) (first ∷ second ∷ []) has fit suit =
@@ -130,7 +130,7 @@ shuffle_runs program types constant vertex memory before (type ∷ id ∷ []) va
 shuffle_runs program types constant vertex memory before (type ∷ []) values has fit suit = cc
 shuffle_runs program types constant vertex memory before [] values has fit suit = cc
 
-any_runs : (program : Program) → HasTypes program → (constant : ℕ → Option ℕ) (vertex : Bool) (memory : Memory) (before : ℕ) (words : List ℕ) (values : List Value) → HasOperands op.ANY words
+pub any_runs : (program : Program) → HasTypes program → (constant : ℕ → Option ℕ) (vertex : Bool) (memory : Memory) (before : ℕ) (words : List ℕ) (values : List Value) → HasOperands op.ANY words
     → composite_operands_fit (typing_in program constant vertex) (instruction op.ANY words) ≡ true → ReadsSuit program constant op.ANY before words values → Runs program memory (instruction op.ANY words) values
 unfolding kinds class_of entry_of composite_operands_fit read_ids effect_of result_of
 any_runs program types constant vertex memory before (type ∷ id ∷ vector ∷ []) (value ∷ []) has fit suit =
@@ -142,7 +142,7 @@ any_runs program types constant vertex memory before (type ∷ id ∷ []) values
 any_runs program types constant vertex memory before (type ∷ []) values has fit suit = cc
 any_runs program types constant vertex memory before [] values has fit suit = cc
 
-all_run : (program : Program) → HasTypes program → (constant : ℕ → Option ℕ) (vertex : Bool) (memory : Memory) (before : ℕ) (words : List ℕ) (values : List Value) → HasOperands op.ALL words
+pub all_run : (program : Program) → HasTypes program → (constant : ℕ → Option ℕ) (vertex : Bool) (memory : Memory) (before : ℕ) (words : List ℕ) (values : List Value) → HasOperands op.ALL words
     → composite_operands_fit (typing_in program constant vertex) (instruction op.ALL words) ≡ true → ReadsSuit program constant op.ALL before words values → Runs program memory (instruction op.ALL words) values
 unfolding kinds class_of entry_of composite_operands_fit read_ids effect_of result_of
 all_run program types constant vertex memory before (type ∷ id ∷ vector ∷ []) (value ∷ []) has fit suit =

@@ -8,3 +8,4 @@ pub mod MemoryValues
 pub mod Chains
 pub mod ScalarTypes
 pub mod EffectsRun
+pub mod PlainRuns
