@@ -9,3 +9,4 @@ pub mod Chains
 pub mod ScalarTypes
 pub mod EffectsRun
 pub mod PlainRuns
+pub mod Keeping
