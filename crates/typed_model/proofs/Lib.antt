@@ -10,3 +10,4 @@ pub mod ScalarTypes
 pub mod EffectsRun
 pub mod PlainRuns
 pub mod Keeping
+pub mod VisibleJumps
