@@ -11,3 +11,4 @@ pub mod EffectsRun
 pub mod PlainRuns
 pub mod Keeping
 pub mod VisibleJumps
+pub mod ModuleTypes
