@@ -1,5 +1,5 @@
 -- The types of a module: each has the layout of its shape.
-use Rattle.std.proofs.Common.{◌≡◌, ℕ, zero, suc, ◌+◌, ◌*◌, ◌<◌, ◌≤◌, ◌==◌, ◌&&◌, Bool, true, false, nat_le, nat_lt, if◌then◌else◌, List, [], ◌∷◌, length, take, refl, ap, sym, ◌∙◌, subst, arith, Option, None, Some}
+use Rattle.std.proofs.Common.{◌≡◌, ℕ, zero, suc, ◌+◌, ◌*◌, ◌<◌, ◌≤◌, ◌==◌, ◌&&◌, ◌⊎◌, inl, inr, Bool, true, false, nat_le, nat_lt, if◌then◌else◌, List, [], ◌∷◌, length, take, refl, ap, sym, ◌∙◌, subst, arith, Option, None, Some}
 use Rattle.std.specs.Prelude.{is_none}
 use Rattle.std.specs.List.{fold, list_all}
 use Rattle.std.specs.Option.{option_map, option_and_then, unwrap_or}
@@ -155,3 +155,136 @@ shape_there known layout have (Array element count) is data_is = let own = have 
 shape_there known layout have (Struct members) is data_is = let m = members_stay known layout layout have (λ _ _ h. h) members.list is in (_, ap (option_map Several) m.1)
 shape_there known layout have (Pointer class to) is data_is = cc
 shape_there known layout have Function is data_is = cc
+
+-- ---- after one more instruction
+
+data_sound : (known later : Knowledge) → ((id : ℕ) → is_data (meaning_in (known id)) ≡ true → is_data (meaning_in (later id)) ≡ true) → (shape : Shape) → IsSoundShape known shape → IsSoundShape later shape
+data_sound known later stays (BoolVector count) is = is
+data_sound known later stays (IntVector count signed) is = is
+data_sound known later stays (Array element count) is = stays element is
+data_sound known later stays (Struct members) is = all_stay known later stays members.list is
+  where
+    both : (a b : Bool) → a ≡ true → b ≡ true → (a && b) ≡ true
+    both true b is also = also
+    both false b is also = cc
+
+    all_stay : (known later : Knowledge) → ((id : ℕ) → is_data (meaning_in (known id)) ≡ true → is_data (meaning_in (later id)) ≡ true) → (ids : List ℕ)
+        → list_all (λ id. is_data (meaning_in (known id))) ids ≡ true → list_all (λ id. is_data (meaning_in (later id))) ids ≡ true
+    all_stay known later stays [] is = refl
+    all_stay known later stays (id ∷ ids) is =
+        both (is_data (meaning_in (later id))) (list_all (λ id. is_data (meaning_in (later id))) ids) (stays id (first_of_both (is_data (meaning_in (known id))) (list_all (λ id. is_data (meaning_in (known id))) ids) is))
+        (all_stay known later stays ids (second_of_both (is_data (meaning_in (known id))) (list_all (λ id. is_data (meaning_in (known id))) ids) is))
+data_sound known later stays (Pointer class to) is = stays to is
+data_sound known later stays Void is = tt
+data_sound known later stays Truth is = tt
+data_sound known later stays (Int signed) is = tt
+data_sound known later stays Function is = tt
+
+-- what is known of ids, and the layouts of those that are types
+record Fits (known : Knowledge) (layout : ℕ → Option Layout) : Type 0 where
+  sounds : (id : ℕ) (shape : Shape) → meaning_in (known id) ≡ OfShape shape → IsSoundShape known shape
+  shaped : (id : ℕ) (shape : Shape) → meaning_in (known id) ≡ OfShape shape → layout id ≡ layout_of_shape layout shape
+  fresh : (id : ℕ) → known id ≡ None → layout id ≡ None
+
+shape_by : (m : Meaning) → is_data m ≡ true → (shape : Shape) × (m ≡ OfShape shape) × (is_data_shape shape ≡ true)
+shape_by (OfShape shape) is = (shape, refl, is)
+shape_by m is = cc
+
+no_meaning : (shape : Shape) → ◌≡◌ {A = Meaning} Absent (OfShape shape) → ⊥
+no_meaning shape is = cc
+
+new_or_old : (here : Bool) (before : Option IdFacts) (made : IdFacts) (m : Meaning) → meaning_in (if here && is_none before then Some made else before) ≡ m → (made.meaning ≡ m) ⊎ (meaning_in before ≡ m)
+new_or_old true None made m is = inl is
+new_or_old true (Some facts) made m is = inr is
+new_or_old false before made m is = inr is
+
+layout_case : (here : Bool) (before : Option IdFacts) (own : Option Layout) (made : IdFacts) (layout : ℕ → Option Layout) (m : Meaning) (shape : Shape) → (before ≡ None → own ≡ None) → (meaning_in before ≡ OfShape shape → own ≡ layout_of_shape layout shape) → m ≡ OfShape shape
+    → meaning_in (if here && is_none before then Some made else before) ≡ OfShape shape → (if here && is_none own then layout_of layout m else own) ≡ layout_of_shape layout shape
+layout_case false before own made layout m shape fresh shaped means is = shaped is
+layout_case true before None made layout m shape fresh shaped means is = ap (layout_of layout) means
+layout_case true None (Some own) made layout m shape fresh shaped means is = let e = fresh refl in cc
+layout_case true (Some facts) (Some own) made layout m shape fresh shaped means is = shaped is
+
+known_kept : (here : Bool) (before : Option IdFacts) (made : IdFacts) → is_data (meaning_in before) ≡ true → is_data (meaning_in (if here && is_none before then Some made else before)) ≡ true
+known_kept true None made is = cc
+known_kept true (Some facts) made is = is
+known_kept false before made is = is
+
+layout_kept : (here : Bool) (own : Option Layout) (new : Option Layout) (known : Layout) → own ≡ Some known → (if here && is_none own then new else own) ≡ Some known
+layout_kept true None new known is = cc
+layout_kept true (Some own) new known is = is
+layout_kept false own new known is = is
+
+still_fresh : (here : Bool) (before : Option IdFacts) (own new : Option Layout) (made : IdFacts) → (before ≡ None → own ≡ None) → (if here && is_none before then Some made else before) ≡ None → (if here && is_none own then new else own) ≡ None
+still_fresh true None own new made fresh is = cc
+still_fresh true (Some facts) own new made fresh is = cc
+still_fresh false before own new made fresh is = fresh is
+
+
+step : (meaning : ℕ → Meaning) (known : Knowledge) (layout : ℕ → Option Layout) (inst : Inst) → Fits known layout → HaveLayout known layout → ((id : ℕ) (shape : Shape) → meaning_in (known_after known inst id) ≡ OfShape shape → meaning id ≡ OfShape shape)
+    → Fits (known_after known inst) (layouts_after meaning layout inst) × HaveLayout (known_after known inst) (layouts_after meaning layout inst)
+unfolding known_after
+step meaning known layout inst fits have agrees =
+    let later : ℕ → Option Layout = layouts_after meaning layout inst in
+    let extends : Extends layout later = λ id own is. layout_kept (gives id inst) (layout id) (layout_of layout (meaning id)) own is in
+    let rests : (id : ℕ) (shape : Shape) → meaning_in (known_after known inst id) ≡ OfShape shape → IsSoundShape known shape =
+        λ id shape is. elim (new_or_old (gives id inst) (known id) (known_of known inst) (OfShape shape) is) [ inl new ↦ sound_shape known inst shape new | inr old ↦ fits.sounds id shape old ] in
+    let first : (id : ℕ) (shape : Shape) → meaning_in (known_after known inst id) ≡ OfShape shape → later id ≡ layout_of_shape layout shape =
+        λ id shape is. layout_case (gives id inst) (known id) (layout id) (known_of known inst) layout (meaning id) shape (fits.fresh id) (fits.shaped id shape) (agrees id shape is) is in
+    (record {
+      sounds = λ id shape is. data_sound known (known_after known inst) (λ other. known_kept (gives other inst) (known other) (known_of known inst)) shape (rests id shape is);
+      shaped = λ id shape is. first id shape is ∙ shape_stays known layout later have extends shape (rests id shape is);
+      fresh = λ id none. still_fresh (gives id inst) (known id) (layout id) (layout_of layout (meaning id)) (known_of known inst) (fits.fresh id) none;
+    }, λ id is.
+        let s = shape_by (meaning_in (known_after known inst id)) is in
+        let own = shape_there known layout have s.0 (rests id s.0 s.1) s.2 in
+        (own.0, first id s.0 s.1 ∙ own.1))
+
+-- ---- of a whole list
+
+abbrev layouts_at : List Inst → ℕ → ℕ → Option Layout
+layouts_at insts place = layouts_by (meaning insts) (take place insts)
+
+known_next : (insts : List Inst) (place : ℕ) → place < length insts → known_before insts (place + 1) ≡ known_after (known_before insts place) (inst_at insts place)
+unfolding known_by
+known_next insts place within = fold_more known_after nothing_known insts place no_instruction within
+
+layouts_next : (insts : List Inst) (place : ℕ) → place < length insts → layouts_at insts (place + 1) ≡ layouts_after (meaning insts) (layouts_at insts place) (inst_at insts place)
+unfolding layouts_by
+layouts_next insts place within = fold_more (layouts_after (meaning insts)) (λ _. None) insts place no_instruction within
+
+known_first : (insts : List Inst) (id : ℕ) → known_before insts 0 id ≡ None
+unfolding known_by
+known_first insts id = refl
+
+layouts_first : (insts : List Inst) (id : ℕ) → layouts_at insts 0 id ≡ None
+unfolding layouts_by
+layouts_first insts id = refl
+
+agrees : (insts : List Inst) (place id : ℕ) (shape : Shape) → meaning_in (known_before insts place id) ≡ OfShape shape → meaning insts id ≡ OfShape shape
+agrees insts place id shape is = by_known insts place id shape (known_before insts place id) refl is
+  where
+    by_known : (insts : List Inst) (place id : ℕ) (shape : Shape) (known : Option IdFacts) → known_before insts place id ≡ known → meaning_in known ≡ OfShape shape → meaning insts id ≡ OfShape shape
+    by_known insts place id shape None known is = absurd (no_meaning shape is)
+    by_known insts place id shape (Some facts) known is = ap meaning_in (known_stays insts place id facts known) ∙ is
+
+FitAt : List Inst → ℕ → Type 0
+FitAt insts place = Fits (known_before insts place) (layouts_at insts place) × HaveLayout (known_before insts place) (layouts_at insts place)
+
+all_fit : (insts : List Inst) (place : ℕ) → place ≤ length insts → FitAt insts place
+unfolding FitAt
+all_fit insts zero within =
+    (record {
+      sounds = λ id shape is. absurd (no_meaning shape (ap meaning_in (sym (known_first insts id)) ∙ is));
+      shaped = λ id shape is. absurd (no_meaning shape (ap meaning_in (sym (known_first insts id)) ∙ is));
+      fresh = λ id none. layouts_first insts id;
+    }, λ id is. let e : is_data (meaning_in (known_before insts 0 id)) ≡ false = ap (λ (k : Option IdFacts). is_data (meaning_in k)) (known_first insts id) in absurd (cc))
+all_fit insts (suc place) within =
+    let e : place + 1 ≡ suc place = omega arith in
+    let before = all_fit insts place (omega arith) in
+    let k = known_next insts place (omega arith) in let l = layouts_next insts place (omega arith) in
+    let after = step (meaning insts) (known_before insts place) (layouts_at insts place) (inst_at insts place) before.0 before.1
+        (λ id shape is. agrees insts (place + 1) id shape (ap (λ (known : Knowledge). meaning_in (known id)) k ∙ is)) in
+    subst (FitAt insts) e
+    (subst (λ (layout : ℕ → Option Layout). Fits (known_before insts (place + 1)) layout × HaveLayout (known_before insts (place + 1)) layout) (sym l)
+    (subst (λ (known : Knowledge). Fits known (layouts_after (meaning insts) (layouts_at insts place) (inst_at insts place)) × HaveLayout known (layouts_after (meaning insts) (layouts_at insts place) (inst_at insts place))) (sym k) after))
