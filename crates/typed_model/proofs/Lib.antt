@@ -12,3 +12,4 @@ pub mod PlainRuns
 pub mod Keeping
 pub mod VisibleJumps
 pub mod ModuleTypes
+pub mod ValidTypes

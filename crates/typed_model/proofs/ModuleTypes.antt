@@ -124,7 +124,7 @@ abbrev Extends : (layout later : ℕ → Option Layout) → Type 0
 Extends layout later = (id : ℕ) (known : Layout) → layout id ≡ Some known → later id ≡ Some known
 
 -- data that are known have a layout
-abbrev HaveLayout : Knowledge → (ℕ → Option Layout) → Type 0
+abbrev pub HaveLayout : Knowledge → (ℕ → Option Layout) → Type 0
 HaveLayout known layout = (id : ℕ) → is_data (meaning_in (known id)) ≡ true → (own : Layout) × (layout id ≡ Some own)
 
 abbrev with_front : Option Layout → Option Layouts → Option Layouts
@@ -181,10 +181,10 @@ data_sound known later stays (Int signed) is = tt
 data_sound known later stays Function is = tt
 
 -- what is known of ids, and the layouts of those that are types
-record Fits (known : Knowledge) (layout : ℕ → Option Layout) : Type 0 where
-  sounds : (id : ℕ) (shape : Shape) → meaning_in (known id) ≡ OfShape shape → IsSoundShape known shape
-  shaped : (id : ℕ) (shape : Shape) → meaning_in (known id) ≡ OfShape shape → layout id ≡ layout_of_shape layout shape
-  fresh : (id : ℕ) → known id ≡ None → layout id ≡ None
+pub record Fits (known : Knowledge) (layout : ℕ → Option Layout) : Type 0 where
+  pub sounds : (id : ℕ) (shape : Shape) → meaning_in (known id) ≡ OfShape shape → IsSoundShape known shape
+  pub shaped : (id : ℕ) (shape : Shape) → meaning_in (known id) ≡ OfShape shape → layout id ≡ layout_of_shape layout shape
+  pub fresh : (id : ℕ) → known id ≡ None → layout id ≡ None
 
 shape_by : (m : Meaning) → is_data m ≡ true → (shape : Shape) × (m ≡ OfShape shape) × (is_data_shape shape ≡ true)
 shape_by (OfShape shape) is = (shape, refl, is)
@@ -242,7 +242,7 @@ step meaning known layout inst fits have agrees =
 
 -- ---- of a whole list
 
-abbrev layouts_at : List Inst → ℕ → ℕ → Option Layout
+abbrev pub layouts_at : List Inst → ℕ → ℕ → Option Layout
 layouts_at insts place = layouts_by (meaning insts) (take place insts)
 
 known_next : (insts : List Inst) (place : ℕ) → place < length insts → known_before insts (place + 1) ≡ known_after (known_before insts place) (inst_at insts place)
@@ -268,11 +268,10 @@ agrees insts place id shape is = by_known insts place id shape (known_before ins
     by_known insts place id shape None known is = absurd (no_meaning shape is)
     by_known insts place id shape (Some facts) known is = ap meaning_in (known_stays insts place id facts known) ∙ is
 
-FitAt : List Inst → ℕ → Type 0
+abbrev pub FitAt : List Inst → ℕ → Type 0
 FitAt insts place = Fits (known_before insts place) (layouts_at insts place) × HaveLayout (known_before insts place) (layouts_at insts place)
 
-all_fit : (insts : List Inst) (place : ℕ) → place ≤ length insts → FitAt insts place
-unfolding FitAt
+pub all_fit : (insts : List Inst) (place : ℕ) → place ≤ length insts → FitAt insts place
 all_fit insts zero within =
     (record {
       sounds = λ id shape is. absurd (no_meaning shape (ap meaning_in (sym (known_first insts id)) ∙ is));
