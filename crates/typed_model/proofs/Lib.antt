@@ -13,3 +13,5 @@ pub mod Keeping
 pub mod VisibleJumps
 pub mod ModuleTypes
 pub mod ValidTypes
+pub mod ResultIds
+pub mod TypedSteps

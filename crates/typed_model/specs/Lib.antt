@@ -1,4 +1,5 @@
 pub mod Effects
+pub mod Judgement
 pub mod Jumps
 pub mod Results
 pub mod Types
