@@ -15,3 +15,4 @@ pub mod ModuleTypes
 pub mod ValidTypes
 pub mod ResultIds
 pub mod TypedSteps
+pub mod Constants
