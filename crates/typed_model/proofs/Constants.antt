@@ -50,10 +50,10 @@ integer_by : (m : Meaning) → is_integer m ≡ true → (signed : Bool) × (m �
 integer_by (OfShape (Int signed)) is = (signed, refl)
 integer_by m is = cc
 
-bool_layout : (program : Program) (known : Knowledge) (values : Values) → HasTypes program → Before program known values → (type : ℕ) → is_bool (meaning_in (known type)) ≡ true → program.layout type ≡ Some OneTruth
+pub bool_layout : (program : Program) (known : Knowledge) (values : Values) → HasTypes program → Before program known values → (type : ℕ) → is_bool (meaning_in (known type)) ≡ true → program.layout type ≡ Some OneTruth
 bool_layout program known values types before type is = types.shaped type OneBool (before.shapes type OneBool (bool_by (meaning_in (known type)) is))
 
-integer_layout : (program : Program) (known : Knowledge) (values : Values) → HasTypes program → Before program known values → (type : ℕ) → is_integer (meaning_in (known type)) ≡ true → program.layout type ≡ Some OneWord
+pub integer_layout : (program : Program) (known : Knowledge) (values : Values) → HasTypes program → Before program known values → (type : ℕ) → is_integer (meaning_in (known type)) ≡ true → program.layout type ≡ Some OneWord
 integer_layout program known values types before type is = let i = integer_by (meaning_in (known type)) is in types.shaped type (Int i.0) (before.shapes type (Int i.0) i.1)
 
 constant_by : (known : Knowledge) (m : Meaning) (P : Meaning → Bool) → P Absent ≡ false → P (type_of_constant known m) ≡ true → (type : ℕ) × (m ≡ Constant type) × (P (meaning_in (known type)) ≡ true)

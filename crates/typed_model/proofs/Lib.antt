@@ -16,3 +16,4 @@ pub mod ValidTypes
 pub mod ResultIds
 pub mod TypedSteps
 pub mod Constants
+pub mod ConstantValues

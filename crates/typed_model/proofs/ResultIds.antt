@@ -22,7 +22,7 @@ use Rattle.stage_model.specs.Effect.{has_result_class}
 row_is : (a b : ℕ) → true ≡ (a == b) → a ≡ b
 row_is a b is = grind (arith, nat_tests)
 
-in_rows : (test : ℕ → Option Entry → Bool) → ((opcode : ℕ) → test opcode None ≡ true) → (rows : List Row) (opcode : ℕ) → list_all (λ row. test row.op (Some row.entry)) rows ≡ true → test opcode (entry_in rows opcode) ≡ true
+pub in_rows : (test : ℕ → Option Entry → Bool) → ((opcode : ℕ) → test opcode None ≡ true) → (rows : List Row) (opcode : ℕ) → list_all (λ row. test row.op (Some row.entry)) rows ≡ true → test opcode (entry_in rows opcode) ≡ true
 in_rows test none [] opcode all = none opcode
 in_rows test none (row ∷ rows) opcode all =
     by_first test row rows opcode (row.op == opcode) refl (first_of_both (test row.op (Some row.entry)) (list_all (λ row. test row.op (Some row.entry)) rows) all)
