@@ -17,3 +17,4 @@ pub mod ResultIds
 pub mod TypedSteps
 pub mod Constants
 pub mod ConstantValues
+pub mod ModuleValues
