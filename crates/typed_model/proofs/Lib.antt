@@ -18,3 +18,4 @@ pub mod TypedSteps
 pub mod Constants
 pub mod ConstantValues
 pub mod ModuleValues
+pub mod ModuleSteps

@@ -49,6 +49,9 @@ is_expected class.Memory opcode place = if opcode == op.STORE then is_none place
 is_expected class.Composite opcode place = is_second place
 is_expected (class.Scalar operation) opcode place = is_second place
 is_expected class.Phi opcode place = is_second place
+is_expected class.Constant opcode place = is_second place
+is_expected class.SpecConstant opcode place = is_second place
+is_expected class.SpecConstantResult opcode place = is_second place
 is_expected of opcode place = true
 
 abbrev is_expected_entry : ℕ → Option Entry → Bool
@@ -103,3 +106,51 @@ typed_entry None inst is isnt so = cc
 pub typed_result_id : (inst : Inst) → has_result_class (class_of inst.op) ≡ true → inst.op == op.STORE ≡ false → result inst ≡ Some (word_at 1 inst)
 unfolding result class_of
 typed_result_id inst is isnt = typed_entry (entry_of inst.op) inst is isnt (expected inst.op)
+
+-- so has a constant, and a variable
+abbrev pub defines : Option Class → Bool
+defines (Some class.Constant) = true
+defines (Some class.SpecConstant) = true
+defines (Some class.SpecConstantResult) = true
+defines (Some class.Undef) = true
+defines (Some class.Variable) = true
+defines other = false
+
+defining : (of : Class) (opcode : ℕ) (place : Option ℕ) → defines (Some of) ≡ true → is_expected of opcode place ≡ true → place ≡ Some 1
+defining class.Constant opcode place is so = second_of place so
+defining class.SpecConstant opcode place is so = second_of place so
+defining class.SpecConstantResult opcode place is so = second_of place so
+defining class.Undef opcode place is so = second_of place so
+defining class.Variable opcode place is so = second_of place so
+defining of opcode place is so = cc
+
+defining_entry : (entry : Option Entry) (inst : Inst) → defines (class_in entry) ≡ true → is_expected_entry inst.op entry ≡ true → result_in entry inst ≡ Some (word_at 1 inst)
+defining_entry (Some (Listed of operands)) inst is so = ap (option_map (λ place. word_at place inst)) (defining of inst.op (result_place (listed_of operands)) is so)
+defining_entry (Some Skipped) inst is so = cc
+defining_entry (Some Float) inst is so = cc
+defining_entry None inst is so = cc
+
+pub defined_id : (inst : Inst) → defines (class_of inst.op) ≡ true → result inst ≡ Some (word_at 1 inst)
+unfolding result class_of
+defined_id inst is = defining_entry (entry_of inst.op) inst is (expected inst.op)
+
+-- ---- opcodes by class
+
+abbrev implies : Bool → Bool → Bool
+implies true b = b
+implies false b = true
+
+abbrev pub is_named : Option Class → ℕ → Bool
+is_named (Some class.Undef) opcode = opcode == op.UNDEF
+is_named (Some class.Variable) opcode = opcode == op.VARIABLE
+is_named (Some class.Phi) opcode = opcode == op.PHI
+is_named (Some class.Label) opcode = opcode == op.LABEL
+is_named class opcode = true
+
+all_named : list_all (λ row. is_named (class_in (Some row.entry)) row.op) ROWS ≡ true
+all_named = refl
+
+-- OpUndef, OpVariable, OpPhi and OpLabel are alone in their classes
+pub named : (opcode : ℕ) → is_named (class_of opcode) opcode ≡ true
+unfolding class_of entry_of
+named opcode = in_rows (λ opcode entry. is_named (class_in entry) opcode) (λ opcode. refl) ROWS opcode all_named
