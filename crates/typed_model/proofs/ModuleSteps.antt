@@ -9,7 +9,7 @@ use Rattle.spirv_model.specs.Operands.{word_at, result, entry_of, class_of, kind
 use Rattle.valid_model.specs.declared.meaning.Meaning.{Meaning}
 use Rattle.valid_model.specs.declared.meaning.Meaning.TheVariants.{Constant, Variable, Value as ValueOf, Other}
 use Rattle.valid_model.specs.Definitions.{gives, definition, inst_at, id_twice}
-use Rattle.valid_model.specs.Knowledge.{Knowledge, means, meaning_in}
+use Rattle.valid_model.specs.Knowledge.{Knowledge, means, meaning_in, is_storage_class}
 use Rattle.valid_model.specs.Types.{is_type_class, is_type, type_of}
 use Rattle.valid_model.specs.Meanings.{is_constant_class, is_constant, constant_known, variable_meaning, other_meaning, known_of, known_before, meaning}
 use Rattle.check_model.specs.Typing.{type_id, constant_in, constant_word}
@@ -21,7 +21,7 @@ use Rattle.typed_model.specs.Values.{IsOfType}
 use Rattle.typed_model.specs.Types.{AreTypes, HasTypes, Suits, HasTypedResult}
 use Rattle.typed_model.specs.Judgement.{HasValue, AreTyped}
 use Rattle.typed_model.proofs.TypeLayouts.{same}
-use Rattle.typed_model.proofs.PlainRuns.{at_op}
+use Rattle.typed_model.proofs.PlainRuns.{at_op, whole_variable}
 use Rattle.typed_model.proofs.EffectsRun.{instruction}
 use Rattle.typed_model.proofs.ResultIds.{defines, defined_id}
 use Rattle.typed_model.proofs.ModuleValues.{defined_at, meaning_at}
@@ -94,3 +94,54 @@ constant_suits insts entries values place value within once is has made of =
   where
     same_type : (a b : ℕ) → ◌≡◌ {A = Option ℕ} (Some a) (Some b) → a ≡ b
     same_type a b is = cc
+
+-- ---- OpUndef and OpVariable
+
+no_number : (inst : Inst) (opcode word : ℕ) → inst.op == opcode ≡ true → opcode == op.CONSTANT ≡ false → constant_in inst ≡ Some word → ⊥
+no_number inst opcode word is isnt known =
+    let n = number_of inst word known in
+    let e : inst.op == op.CONSTANT ≡ false = ap (λ (o : ℕ). o == op.CONSTANT) (same inst.op opcode is) ∙ isnt in cc
+
+undef_known : (known : Knowledge) (words : List ℕ) → (known_of known (instruction op.UNDEF words)).meaning ≡ ValueOf (slice_index words 0)
+unfolding known_of class_of entry_of
+undef_known known words = refl
+
+pub undef_suits : (insts : List Inst) (place : ℕ) (value : Value) → place < length insts → id_twice insts place ≡ None → (inst_at insts place).op == op.UNDEF ≡ true → defines (class_of (inst_at insts place).op) ≡ true
+    → IsOfType (program_of insts) (word_at 0 (inst_at insts place)) value → Suits (program_of insts) (constant_word insts) (word_at 1 (inst_at insts place)) value
+unfolding program_of
+undef_suits insts place value within once is defined of =
+    let inst = inst_at insts place in
+    let at = defined_at insts place (word_at 1 inst) within (defined_id inst defined) once in
+    let means = meaning_at insts place (word_at 1 inst) at ∙ at_op (λ inst. (known_of (known_before insts place) inst).meaning ≡ ValueOf (word_at 0 inst)) inst op.UNDEF is (undef_known (known_before insts place) inst.words) in
+    record {
+      of_type = λ type typed. subst (λ t. IsOfType (program_of insts) t value) (same_type (word_at 0 inst) type (sym (ap type_id means) ∙ typed)) of;
+      number = λ word known. absurd (no_number inst op.UNDEF word is refl (number_at insts place (word_at 1 inst) word at known));
+    }
+  where
+    same_type : (a b : ℕ) → ◌≡◌ {A = Option ℕ} (Some a) (Some b) → a ≡ b
+    same_type a b is = cc
+
+variable_known : (known : Knowledge) (words : List ℕ) → (known_of known (instruction op.VARIABLE words)).meaning ≡ variable_meaning (slice_index words 0) (slice_index words 2)
+unfolding known_of class_of entry_of
+variable_known known words = refl
+
+variable_typed : (insts : List Inst) (id held class type : ℕ) (b : Bool) → HasTypes (program_of insts) → meaning insts id ≡ (if b then Variable held class else Other) → type_id (meaning insts id) ≡ Some type → IsOfType (program_of insts) type (Pointer id [])
+unfolding program_of
+variable_typed insts id held class type true types means typed =
+    subst (λ t. IsOfType (program_of insts) t (Pointer id [])) (same_type held type (sym (ap type_id means) ∙ typed)) (whole_variable (program_of insts) types id held class means)
+  where
+    same_type : (a b : ℕ) → ◌≡◌ {A = Option ℕ} (Some a) (Some b) → a ≡ b
+    same_type a b is = cc
+variable_typed insts id held class type false types means typed = let e : type_id (meaning insts id) ≡ None = ap type_id means in absurd (cc)
+
+pub variable_suits : (insts : List Inst) (place : ℕ) → HasTypes (program_of insts) → place < length insts → id_twice insts place ≡ None → (inst_at insts place).op == op.VARIABLE ≡ true → defines (class_of (inst_at insts place).op) ≡ true
+    → Suits (program_of insts) (constant_word insts) (word_at 1 (inst_at insts place)) (Pointer (word_at 1 (inst_at insts place)) [])
+unfolding program_of
+variable_suits insts place types within once is defined =
+    let inst = inst_at insts place in
+    let at = defined_at insts place (word_at 1 inst) within (defined_id inst defined) once in
+    let means = meaning_at insts place (word_at 1 inst) at ∙ at_op (λ inst. (known_of (known_before insts place) inst).meaning ≡ variable_meaning (word_at 0 inst) (word_at 2 inst)) inst op.VARIABLE is (variable_known (known_before insts place) inst.words) in
+    record {
+      of_type = λ type typed. variable_typed insts (word_at 1 inst) (word_at 0 inst) (word_at 2 inst) type (is_storage_class (word_at 2 inst)) types means typed;
+      number = λ word known. absurd (no_number inst op.VARIABLE word is refl (number_at insts place (word_at 1 inst) word at known));
+    }

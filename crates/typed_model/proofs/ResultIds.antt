@@ -154,3 +154,38 @@ all_named = refl
 pub named : (opcode : ℕ) → is_named (class_of opcode) opcode ≡ true
 unfolding class_of entry_of
 named opcode = in_rows (λ opcode entry. is_named (class_in entry) opcode) (λ opcode. refl) ROWS opcode all_named
+
+-- ---- instructions of the module's level that define no value
+
+abbrev is_silent_result : ℕ → Class → Option ℕ → Bool
+is_silent_result opcode class.Setting (Some place) = opcode == op.EXT_INST_IMPORT
+is_silent_result opcode class.Function (Some place) = opcode == op.FUNCTION
+is_silent_result opcode of place = true
+
+abbrev is_silent_entry : ℕ → Option Entry → Bool
+is_silent_entry opcode (Some (Listed of operands)) = is_silent_result opcode of (result_place (listed_of operands))
+is_silent_entry opcode entry = true
+
+all_silent : list_all (λ row. is_silent_entry row.op (Some row.entry)) ROWS ≡ true
+all_silent = refl
+
+silent_opcode : (opcode : ℕ) → is_silent_entry opcode (entry_of opcode) ≡ true
+unfolding entry_of
+silent_opcode opcode = in_rows is_silent_entry (λ opcode. refl) ROWS opcode all_silent
+
+import_by : (entry : Option Entry) (inst : Inst) (id : ℕ) → class_in entry ≡ Some class.Setting → is_silent_entry inst.op entry ≡ true → result_in entry inst ≡ Some id → inst.op == op.EXT_INST_IMPORT ≡ true
+import_by (Some (Listed of operands)) inst id is so has = by_place inst id of (result_place (listed_of operands)) (same_class of is) so has
+  where
+    same_class : (of : Class) → ◌≡◌ {A = Option Class} (Some of) (Some class.Setting) → of ≡ class.Setting
+    same_class of is = cc
+
+    by_place : (inst : Inst) (id : ℕ) (of : Class) (place : Option ℕ) → of ≡ class.Setting → is_silent_result inst.op of place ≡ true → option_map (λ place. word_at place inst) place ≡ Some id → inst.op == op.EXT_INST_IMPORT ≡ true
+    by_place inst id of None is so has = cc
+    by_place inst id of (Some place) is so has = sym (ap (λ (c : Class). is_silent_result inst.op c (Some place)) is) ∙ so
+import_by (Some Skipped) inst id is so has = cc
+import_by (Some Float) inst id is so has = cc
+import_by None inst id is so has = cc
+
+pub setting_result : (inst : Inst) (id : ℕ) → class_of inst.op ≡ Some class.Setting → result inst ≡ Some id → inst.op == op.EXT_INST_IMPORT ≡ true
+unfolding result class_of
+setting_result inst id is has = import_by (entry_of inst.op) inst id is (silent_opcode inst.op) has
