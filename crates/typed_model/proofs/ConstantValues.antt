@@ -89,7 +89,7 @@ data_by : (program : Program) (known : Knowledge) (values : Values) → HasTypes
 data_by program known values types before type (OfShape shape) means is = ap is_data (before.shapes type shape means) ∙ is
 data_by program known values types before type m means is = cc
 
-data_before : (program : Program) (known : Knowledge) (values : Values) → HasTypes program → Before program known values → (type : ℕ) → is_data (meaning_in (known type)) ≡ true → is_data (program.meaning type) ≡ true
+pub data_before : (program : Program) (known : Knowledge) (values : Values) → HasTypes program → Before program known values → (type : ℕ) → is_data (meaning_in (known type)) ≡ true → is_data (program.meaning type) ≡ true
 data_before program known values types before type is = data_by program known values types before type (meaning_in (known type)) refl is
 
 null_constant : (program : Program) (entries : SpecValues) (known : Knowledge) (values : Values) → HasTypes program → Before program known values → (words : List ℕ) → HasConstant program entries known values (instruction op.CONSTANT_NULL words)

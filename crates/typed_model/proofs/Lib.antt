@@ -19,3 +19,4 @@ pub mod Constants
 pub mod ConstantValues
 pub mod ModuleValues
 pub mod ModuleSteps
+pub mod ModuleConstants

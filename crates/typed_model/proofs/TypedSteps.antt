@@ -27,7 +27,7 @@ both : (a b : Bool) → a ≡ true → b ≡ true → (a && b) ≡ true
 both true b is also = also
 both false b is also = cc
 
-visible_by : (intervals : List Interval) (a b : ℕ) → a < b → keeps intervals a b ≡ true → is_visible intervals a b ≡ true
+pub visible_by : (intervals : List Interval) (a b : ℕ) → a < b → keeps intervals a b ≡ true → is_visible intervals a b ≡ true
 unfolding is_visible
 visible_by intervals a b less kept = both (nat_lt a b) (keeps intervals a b) (lt-ltb a b less) kept
 
@@ -68,7 +68,7 @@ visible_jump intervals terminator label a jump is =
 
 -- ---- definitions
 
-not_none : (id : ℕ) (own : Option ℕ) → own ≡ None → has_result id own ≡ true → ⊥
+pub not_none : (id : ℕ) (own : Option ℕ) → own ≡ None → has_result id own ≡ true → ⊥
 not_none id None none is = cc
 not_none id (Some own) none is = cc
 

@@ -162,7 +162,7 @@ unbroken : (known : Knowledge) (inst : Inst) → breaks_types known inst ≡ fal
 unfolding breaks_types
 unbroken known inst keeps isnt is = variable_test _ _ (is_type inst.op) (inst.op == op.VARIABLE) (is_pointer_of (word_at 2 inst) (meaning_in (known (word_at 0 inst)))) isnt is keeps
 
-stays_known : (insts : List Inst) (place id : ℕ) (shape : Shape) (known : Option IdFacts) → known_before insts place id ≡ known → meaning_in known ≡ OfShape shape → meaning insts id ≡ OfShape shape
+pub stays_known : (insts : List Inst) (place id : ℕ) (shape : Shape) (known : Option IdFacts) → known_before insts place id ≡ known → meaning_in known ≡ OfShape shape → meaning insts id ≡ OfShape shape
 stays_known insts place id shape None known is = cc
 stays_known insts place id shape (Some facts) known is = ap meaning_in (known_stays insts place id facts known) ∙ is
 
