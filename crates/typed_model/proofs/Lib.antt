@@ -20,3 +20,4 @@ pub mod ConstantValues
 pub mod ModuleValues
 pub mod ModuleSteps
 pub mod ModuleConstants
+pub mod SilentSteps

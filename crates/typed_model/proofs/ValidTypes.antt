@@ -20,6 +20,7 @@ use Rattle.valid_model.specs.Types.{is_type, integer_type, vector_shape, vector_
 use Rattle.valid_model.specs.Meanings.{is_constant, constant_known, variable_meaning, other_meaning, known_of, known_by, known_before, meaning}
 use Rattle.valid_model.specs.FirstFault.{bad_type, bad_constant, fault_of, rule_fault, type_fault_at, first_fault, type_fault}
 use Rattle.valid_model.proofs.KnownIds.{known_stays, known_by_definition, unknown_without_definition}
+use Rattle.check_model.specs.Typing.{type_id}
 use Rattle.stage_model.specs.Value.{Layout}
 use Rattle.stage_model.specs.Program.{layout_of_shape, layouts_by, program_of}
 use Rattle.typed_model.specs.Types.{AreTypes, HasTypes}
@@ -78,37 +79,35 @@ defined_within (inst ∷ insts) id place is = by_first inst insts id place (give
     by_first inst insts id place false None known is go = cc
     by_first inst insts id place false (Some before) known is go = let e : suc before ≡ place = same_some (suc before) place is in let l = go before known in omega (arith, e, l)
 
-record NoVariable (facts : IdFacts) : Type 0 where
-  never : (type class : ℕ) → facts.meaning ≡ Variable type class → ⊥
+-- a type has no type
+pub record IsUntyped (type : Option IdFacts) : Type 0 where
+  pub none : type_id (unwrap_or type (means Other)).meaning ≡ None
 
-record NoVariableType (type : Option IdFacts) : Type 0 where
-  never : (of class : ℕ) → (unwrap_or type (means Other)).meaning ≡ Variable of class → ⊥
-
-choose_type : {x y : Option IdFacts} (b : Bool) → NoVariableType x → NoVariableType y → NoVariableType (if b then x else y)
+choose_type : {x y : Option IdFacts} (b : Bool) → IsUntyped x → IsUntyped y → IsUntyped (if b then x else y)
 choose_type true f g = f
 choose_type false f g = g
 
-no_type : NoVariableType None
-no_type = record { never = λ of class is. cc }
+no_type : IsUntyped None
+no_type = record { none = refl }
 
-a_shape : (shape : Shape) (size : ℕ) → NoVariableType (Some (a_type shape size))
-a_shape shape size = record { never = λ of class is. cc }
+a_shape : (shape : Shape) (size : ℕ) → IsUntyped (Some (a_type shape size))
+a_shape shape size = record { none = refl }
 
-some_shape : (shape : Option Shape) (size : ℕ) → NoVariableType (option_map (λ shape. a_type shape size) shape)
+some_shape : (shape : Option Shape) (size : ℕ) → IsUntyped (option_map (λ shape. a_type shape size) shape)
 some_shape None size = no_type
 some_shape (Some shape) size = a_shape shape size
 
-some_size : (shape : Shape) (size : Option ℕ) → NoVariableType (option_map (λ size. a_type shape size) size)
+some_size : (shape : Shape) (size : Option ℕ) → IsUntyped (option_map (λ size. a_type shape size) size)
 some_size shape None = no_type
 some_size shape (Some size) = a_shape shape size
 
-a_choice : (b : Bool) (shape : Shape) (size : ℕ) → NoVariableType (if b then Some (a_type shape size) else None)
+a_choice : (b : Bool) (shape : Shape) (size : ℕ) → IsUntyped (if b then Some (a_type shape size) else None)
 a_choice true shape size = a_shape shape size
 a_choice false shape size = no_type
 
-no_variable_type : (known : Knowledge) (inst : Inst) → NoVariableType (type_of known inst)
+pub untyped : (known : Knowledge) (inst : Inst) → IsUntyped (type_of known inst)
 unfolding type_of
-no_variable_type known inst =
+untyped known inst =
     choose_type (inst.op == op.TYPE_VOID) (a_shape Void 0) (choose_type (inst.op == op.TYPE_BOOL) (a_shape Truth 1)
     (choose_type (inst.op == op.TYPE_INT) (a_choice _ (Int (word_at 2 inst == 1)) 1)
     (choose_type (inst.op == op.TYPE_VECTOR) (choose_type (nat_le 2 (word_at 2 inst) && nat_le (word_at 2 inst) 4) (some_shape (vector_shape (meaning_in (known (word_at 1 inst))) (word_at 2 inst)) (word_at 2 inst)) no_type)
@@ -136,7 +135,7 @@ makes_variable known inst type class is =
         → (if t then unwrap_or (type_of known inst) (means Other) else if c then constant_known known inst.op (word_at 0 inst) (word_at 2 inst)
         else if v then means (if s then Variable (word_at 0 inst) (word_at 2 inst) else Other) else means (if l then Label else if o then Other else Value (word_at 0 inst))).meaning ≡ Variable type class
         → MakesVariable inst type class
-    by_tests known inst type class true c v s l o of_type of_op is = absurd ((no_variable_type known inst).never type class is)
+    by_tests known inst type class true c v s l o of_type of_op is = (let e : type_id (Variable type class) ≡ None = ap type_id (sym is) ∙ (untyped known inst).none in cc)
     by_tests known inst type class false true v s l o of_type of_op is = cc
     by_tests known inst type class false false true true l o of_type of_op is =
         let e = same_variable (word_at 0 inst) (word_at 2 inst) type class is in record { no_type = of_type; is = of_op; of = e.0; in_class = e.1 }
