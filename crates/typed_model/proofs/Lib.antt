@@ -21,3 +21,4 @@ pub mod ModuleValues
 pub mod ModuleSteps
 pub mod ModuleConstants
 pub mod SilentSteps
+pub mod ModuleTyped

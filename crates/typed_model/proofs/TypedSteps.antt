@@ -31,7 +31,7 @@ pub visible_by : (intervals : List Interval) (a b : ℕ) → a < b → keeps int
 unfolding is_visible
 visible_by intervals a b less kept = both (nat_lt a b) (keeps intervals a b) (lt-ltb a b less) kept
 
-seen : (intervals : List Interval) (a b : ℕ) → is_visible intervals a b ≡ true → (a < b) × (keeps intervals a b ≡ true)
+pub seen : (intervals : List Interval) (a b : ℕ) → is_visible intervals a b ≡ true → (a < b) × (keeps intervals a b ≡ true)
 unfolding is_visible
 seen intervals a b is = (ltb-true a b (first_of_both (nat_lt a b) (keeps intervals a b) is), second_of_both (nat_lt a b) (keeps intervals a b) is)
 
