@@ -1,26 +1,24 @@
 -- OpAccessChain: a pointer of its type, where its operands fit.
-use Rattle.std.proofs.Common.{◌≡◌, ℕ, zero, suc, ◌+◌, ◌-◌, ◌==◌, ◌&&◌, Bool, true, false, if◌then◌else◌, List, [], ◌∷◌, ◌++◌, refl, ap, sym, ◌∙◌, subst, arith, Option, None, Some}
+use Rattle.std.proofs.Common.{◌≡◌, ℕ, zero, suc, ◌+◌, ◌-◌, ◌==◌, Bool, true, false, if◌then◌else◌, List, [], ◌∷◌, ◌++◌, refl, ap, sym, ◌∙◌, subst, arith, Option, None, Some}
 use Rattle.std.specs.Prelude.{slice_get}
 use Rattle.std.specs.Option.{option_map, option_and_then}
 use Rattle.std.proofs.lemmas.Bool.Decides.{nat_tests}
 use Rattle.basics.proofs.Bools.{first_of_both, second_of_both}
 use Rattle.valid_model.specs.declared.meaning.Meaning.{Meaning}
-use Rattle.valid_model.specs.declared.meaning.Meaning.TheVariants.{Absent, Shape as OfShape, Constant, Variable, Value as ValueOf, Label, Other}
-use Rattle.valid_model.specs.declared.meaning.Shape.TheVariants.{Void, Bool as OneBool, Int, BoolVector, IntVector, Array, Struct, Pointer as PointerType, Function}
+use Rattle.valid_model.specs.declared.meaning.Meaning.TheVariants.{Shape as OfShape, Variable}
+use Rattle.valid_model.specs.declared.meaning.Shape.TheVariants.{Int, BoolVector, IntVector, Array, Struct, Pointer as PointerType}
 use Rattle.valid_model.specs.Knowledge.{is_integer}
 use Rattle.valid_model.specs.Shapes.{pointee_id}
-use Rattle.check_model.specs.declared.components.Component.{Component}
-use Rattle.check_model.specs.declared.components.Component.TheVariants as component
 use Rattle.check_model.specs.declared.components.Part.{Part}
 use Rattle.check_model.specs.declared.components.Part.TheVariants as part
-use Rattle.check_model.specs.CompositeOperands.{is_of_type, member_part}
+use Rattle.check_model.specs.CompositeOperands.{is_of_type}
 use Rattle.check_model.specs.MemoryOperands.{indexed, member_at, chain_part, chain_step, chain_along, is_pointer_to, chain_fits}
 use Rattle.check_model.specs.Typing.{Typing, type_id, type_of, meaning_of}
 use Rattle.stage_model.specs.Value.{Value, Truth, Word, Composite, Pointer, Outside, Layout, OneTruth, OneWord, Several, Layouts, NoLayouts, LayoutsOf, size_of, repeated, part_at, part_along}
 use Rattle.stage_model.specs.Program.{Program, held_layout, layouts_of}
 use Rattle.stage_model.specs.Effect.{place_of, all_words, pointer_along, chained, chain_of}
-use Rattle.typed_model.specs.Values.{HasLayout, PointsTo, IsPointer, IsOfMeaning, IsOfType}
-use Rattle.typed_model.specs.Types.{AreTypes, HasTypes, typing_in, part_layout, Suits, AllSuit, HasTypedResult}
+use Rattle.typed_model.specs.Values.{IsPointer, IsOfMeaning}
+use Rattle.typed_model.specs.Types.{HasTypes, typing_in, part_layout, Suits, AllSuit, HasTypedResult}
 use Rattle.typed_model.proofs.Layouts.{word_of}
 use Rattle.typed_model.proofs.TypeLayouts.{same, part_of_type, type_has_layout}
 use Rattle.typed_model.proofs.Parts.{layout_at, repeated_same, members_at, member_found}
@@ -242,9 +240,12 @@ pointer_has program class to variable indices held is whole holds known =
 chained_has : (program : Program) (class from to : ℕ) (value : Value) (words : List ℕ) → IsPointer program class from value
     → ((whole : Layout) (place : ℕ) (found : Layout) → program.layout from ≡ Some whole → part_along whole words ≡ Some (place, found) → program.layout to ≡ Some found)
     → (made : Value) × (chained program value words ≡ Some made) × IsPointer program class to made
-chained_has program class from to (Pointer variable indices) words is known =
-    (_, refl, pointer_has program class to variable (indices ++ words) is.held is.is_variable is.whole is.holds
-    (λ place found at. let m = along_more indices words is.whole is.place is.layout place found is.found at in known is.layout m.0 found is.known m.1))
+chained_has program class from to (Pointer variable indices) words is known = (
+  _,
+  refl,
+  pointer_has program class to variable (indices ++ words) is.held is.is_variable is.whole is.holds
+      (λ place found at. let m = along_more indices words is.whole is.place is.layout place found is.found at in known is.layout m.0 found is.known m.1),
+)
 chained_has program class from to Outside words is known = (Outside, refl, tt)
 chained_has program class from to (Truth b) words is known = absurd is
 chained_has program class from to (Word word) words is known = absurd is
@@ -265,9 +266,11 @@ pub record ChainRule (program : Program) (constant : ℕ → Option ℕ) (vertex
 
 pointer_to : (program : Program) → HasTypes program → (constant : ℕ → Option ℕ) (vertex : Bool) (m : Meaning) (class : ℕ) (reached : Option Part) → is_pointer_to (typing_in program constant vertex) m class reached ≡ true
     → (to : ℕ) × (m ≡ OfShape (PointerType class to)) × ((p : Part) × (reached ≡ Some p) × (program.layout to ≡ part_layout program p))
-pointer_to program types constant vertex (OfShape (PointerType own to)) class reached is =
-    (to, ap (λ (c : ℕ). OfShape (PointerType c to)) (same own class (first_of_both (own == class) (is_of_type (typing_in program constant vertex) to reached) is)),
-    part_of_type program types constant vertex to reached (second_of_both (own == class) (is_of_type (typing_in program constant vertex) to reached) is))
+pointer_to program types constant vertex (OfShape (PointerType own to)) class reached is = (
+  to,
+  ap (λ (c : ℕ). OfShape (PointerType c to)) (same own class (first_of_both (own == class) (is_of_type (typing_in program constant vertex) to reached) is)),
+  part_of_type program types constant vertex to reached (second_of_both (own == class) (is_of_type (typing_in program constant vertex) to reached) is),
+)
 pointer_to program types constant vertex m class reached is = cc
 
 rule_by : (program : Program) → HasTypes program → (constant : ℕ → Option ℕ) (vertex : Bool) (type base : ℕ) (indices : List ℕ) (m : Meaning) → program.meaning base ≡ m → chain_fits (typing_in program constant vertex) type m indices ≡ true
@@ -276,7 +279,14 @@ rule_by program types constant vertex type base indices (Variable held class) is
     let v = types.variable base held class is in
     let p = pointer_to program types constant vertex (program.meaning type) class _ fit in
     record {
-      held = held; class = class; from = v.0; to = p.0; is_variable = is; holds = v.1; means = p.1; reached = p.2.0;
+      held = held;
+      class = class;
+      from = v.0;
+      to = p.0;
+      is_variable = is;
+      holds = v.1;
+      means = p.1;
+      reached = p.2.0;
       leads = ap (λ (m : Meaning). chain_along (typing_in program constant vertex) (option_map part.Type (pointee_id m)) indices) (sym v.1) ∙ p.2.1;
       known = p.2.2;
     }
@@ -291,7 +301,7 @@ chain_result program types constant vertex type base indices value values fit su
     let l = types.there r.from (types.pointee r.held r.class r.from r.holds) in
     let a = along_is program types constant vertex indices values (part.Type r.from) r.reached l.0 l.1 r.leads suit in
     let c = chained_has program r.class r.from r.to value a.words is
-        (λ whole place found known at. r.known ∙ a.same place found (ap (λ w. part_along w a.words) (same_some _ _ (sym l.1 ∙ known)) ∙ at)) in
+    (λ whole place found known at. r.known ∙ a.same place found (ap (λ w. part_along w a.words) (same_some _ _ (sym l.1 ∙ known)) ∙ at)) in
     record {
       value = c.0;
       is = ap (λ (words : Option (List ℕ)). option_and_then (chained program value) words) a.are ∙ c.1;

@@ -1,8 +1,8 @@
 -- Instructions that make composites or take them apart: a result of the type that the rule of their operands asks.
-use Rattle.std.proofs.Common.{◌≡◌, ℕ, zero, suc, ◌+◌, ◌-◌, ◌^◌, ◌<◌, ◌≤◌, ◌==◌, ◌||◌, Bool, true, false, nat_lt, nat_le, ◌&&◌, if◌then◌else◌, List, [], ◌∷◌, ◌++◌, length, map, refl, ap, sym, ◌∙◌, subst, arith, Option, None, Some}
+use Rattle.std.proofs.Common.{◌≡◌, ℕ, zero, suc, ◌+◌, ◌<◌, ◌≤◌, ◌==◌, ◌||◌, Bool, true, false, nat_lt, nat_le, ◌&&◌, if◌then◌else◌, List, [], ◌∷◌, ◌++◌, length, map, refl, ap, sym, ◌∙◌, subst, arith, Option, None, Some}
 use Rattle.std.specs.Prelude.{slice_get}
 use Rattle.std.specs.List.{list_all, sum_by, zip, flat_map}
-use Rattle.std.specs.Option.{option_map, option_and_then}
+use Rattle.std.specs.Option.{option_map}
 use Rattle.std.proofs.lemmas.Bool.{ltb-true, leb-true}
 use Rattle.std.proofs.lemmas.List.{length-append}
 use Rattle.std.proofs.lemmas.List.Sums.{sum_by-cons}
@@ -21,15 +21,15 @@ use Rattle.check_model.specs.declared.components.Part.{Part}
 use Rattle.check_model.specs.declared.components.Part.TheVariants as part
 use Rattle.check_model.specs.OperandTypes.{is_pointer}
 use Rattle.check_model.specs.ScalarOperands.{is_truth}
-use Rattle.check_model.specs.Typing.{Typing, type_id, has_type, type_of, components_in}
-use Rattle.stage_model.specs.Value.{Value, Truth, Word, Composite, Pointer, Outside, Parts, NoParts, PartsOf, Layout, OneTruth, OneWord, Several, Layouts, NoLayouts, LayoutsOf, repeated, list_of, parts_from}
+use Rattle.check_model.specs.Typing.{Typing, type_id, has_type, components_in}
+use Rattle.stage_model.specs.Value.{Value, Parts, Layout, OneTruth, OneWord, Several, Layouts, repeated, list_of, parts_from}
 use Rattle.stage_model.specs.Program.{Program, layouts_of}
 use Rattle.stage_model.specs.Operations as operations
 use Rattle.stage_model.specs.Operations.{composite, constructed, is_vector, zero_like, shuffled_component, all_of, shuffled, parts_in, extracted, inserted}
-use Rattle.typed_model.specs.Values.{layout_in, layouts_in, HasLayout, IsOfType}
-use Rattle.typed_model.specs.Results.{scalar_layout, vector_layout, layout_of_components, HasResult}
-use Rattle.typed_model.specs.Types.{AreTypes, HasTypes, typing_in, Suits, AllSuit, HasTypedResult}
-use Rattle.typed_model.proofs.Layouts.{truth_of, word_of, several_of, composite_has, front_of, no_parts, both_have, HaveLayouts, same_parts}
+use Rattle.typed_model.specs.Values.{layouts_in, HasLayout, IsOfType}
+use Rattle.typed_model.specs.Results.{scalar_layout, vector_layout, HasResult}
+use Rattle.typed_model.specs.Types.{HasTypes, typing_in, Suits, AllSuit, HasTypedResult}
+use Rattle.typed_model.proofs.Layouts.{truth_of, word_of, several_of, composite_has, front_of, no_parts, both_have, HaveLayouts}
 use Rattle.typed_model.proofs.Scalars.{HaveResults, none_yet, one_more, composed}
 use Rattle.typed_model.proofs.TypeLayouts.{same, own_type, components_layout, components_suit, type_has_layout, typed_result, same_component, part_of_type, data_of}
 use Rattle.typed_model.proofs.Parts.{with_front, nowhere, extracted_result, inserted_result}
@@ -259,7 +259,7 @@ shuffle_by program types constant vertex type a b first second literals (Some of
     let w = vector_has program types constant vertex of.component b second of_b refl e.3 also in
     let long : count_in of_a + count_in of_b ≡ length (parts_in first ++ parts_in second) = omega (arith, length-append (parts_in first) (parts_in second), v.1, w.1) in
     let parts = components_have (is_truth of.component) (parts_in first ++ parts_in second) literals (all_append (scalar_layout (is_truth of.component)) (parts_in first) (parts_in second) v.0 w.0) (omega (arith, long, v.2))
-        (subst (λ n. list_all (λ literal. nat_lt literal n || (literal == no_component)) literals ≡ true) long e.4) in
+    (subst (λ n. list_all (λ literal. nat_lt literal n || (literal == no_component)) literals ≡ true) long e.4) in
     let made = composed (repeated (length literals) (scalar_layout (is_truth of.component))) _ parts in
     let known = components_layout program types type of are ∙ ap (λ (b : Bool). Some (vector_layout b of.count (is_truth of.component))) (not_one of.count (leb-true 2 of.count e.0)) in
     typed_result program types type (Several (repeated of.count (scalar_layout (is_truth of.component)))) _ known

@@ -1,7 +1,7 @@
 -- Each constant instruction that fits has a value of its type.
-use Rattle.std.proofs.Common.{◌≡◌, ℕ, ◌==◌, ◌||◌, Bool, true, false, List, [], ◌∷◌, slice_index, refl, ap, ◌∙◌, Option, None, Some, is_some}
+use Rattle.std.proofs.Common.{◌≡◌, ℕ, ◌==◌, ◌||◌, Bool, true, false, List, [], ◌∷◌, slice_index, refl, ap, ◌∙◌, Option, Some, is_some}
 use Rattle.std.specs.List.{list_all}
-use Rattle.std.specs.Option.{option_map, unwrap_or}
+use Rattle.std.specs.Option.{option_map}
 use Rattle.spirv_model.specs.declared.module.Inst.{Inst}
 use Rattle.spirv_model.specs.declared.op.TheConstants as op
 use Rattle.spirv_model.specs.declared.table.TheConstants.{ROWS}
@@ -13,11 +13,10 @@ use Rattle.valid_model.specs.declared.meaning.Meaning.TheVariants.{Shape as OfSh
 use Rattle.valid_model.specs.Knowledge.{Knowledge, meaning_in, is_data}
 use Rattle.valid_model.specs.Constants.{constant_fits}
 use Rattle.valid_model.specs.Meanings.{is_constant_class, is_constant}
-use Rattle.stage_model.specs.Value.{Value, Truth, Word, Layout, OneTruth, OneWord, zero_of}
+use Rattle.stage_model.specs.Value.{OneTruth, OneWord, zero_of}
 use Rattle.stage_model.specs.Program.{Program}
-use Rattle.stage_model.specs.Start.{Values, is_nonzero, specialized, constant_of}
-use Rattle.typed_model.specs.Results.{HasResult}
-use Rattle.typed_model.specs.Types.{AreTypes, HasTypes, HasTypedResult}
+use Rattle.stage_model.specs.Start.{Values, constant_of}
+use Rattle.typed_model.specs.Types.{HasTypes, HasTypedResult}
 use Rattle.typed_model.proofs.TypeLayouts.{typed_result}
 use Rattle.typed_model.proofs.MemoryValues.{value_has}
 use Rattle.typed_model.proofs.EffectsRun.{instruction}

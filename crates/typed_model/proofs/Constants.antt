@@ -1,39 +1,34 @@
 -- Constants that fit have a value of their type.
-use Rattle.std.proofs.Common.{◌≡◌, ℕ, zero, suc, ◌+◌, ◌==◌, ◌&&◌, ◌||◌, ◌⊎◌, inl, inr, Bool, true, false, not, if◌then◌else◌, List, [], ◌∷◌, length, slice_index, refl, ap, sym, ◌∙◌, subst, arith, Option, None, Some, is_some}
-use Rattle.std.specs.List.{list_all, zip}
-use Rattle.std.specs.Option.{option_map, option_and_then, unwrap_or}
-use Rattle.basics.specs.Word.{are_equal}
+use Rattle.std.proofs.Common.{◌≡◌, ℕ, suc, ◌==◌, ◌&&◌, ◌||◌, Bool, true, false, if◌then◌else◌, List, [], ◌∷◌, length, refl, ap, sym, ◌∙◌, subst, arith, Option, None, Some}
+use Rattle.std.specs.List.{list_all}
+use Rattle.std.specs.Option.{option_map, option_and_then}
 use Rattle.basics.proofs.Bools.{first_of_both, second_of_both}
 use Rattle.spirv_model.specs.declared.op.TheConstants as op
 use Rattle.spirv_model.specs.declared.class.Class.{Class}
 use Rattle.spirv_model.specs.declared.class.Class.TheVariants as class
 use Rattle.spirv_model.specs.declared.class.ScalarClass.TheVariants.{WordFromWord, WordFromWords, TruthFromWords, TruthFromTruth, TruthFromTruths, Select}
-use Rattle.spirv_model.specs.Operands.{entry_of, class_of, kinds}
-use Rattle.state_model.specs.declared.parts.SpecValues.{SpecValues}
+use Rattle.spirv_model.specs.Operands.{class_of}
 use Rattle.scalar_model.specs.Scalars.{scalar_result}
-use Rattle.valid_model.specs.declared.meaning.IdFacts.{IdFacts}
 use Rattle.valid_model.specs.declared.meaning.Meaning.{Meaning}
 use Rattle.valid_model.specs.declared.meaning.Meaning.TheVariants.{Absent, Shape as OfShape, Constant}
 use Rattle.valid_model.specs.declared.meaning.Shape.{Shape}
 use Rattle.valid_model.specs.declared.meaning.Shape.TheVariants.{Bool as OneBool, Int, BoolVector, IntVector, Array, Struct}
-use Rattle.valid_model.specs.Knowledge.{Knowledge, meaning_in, is_bool, is_integer, is_data, is_data_shape, type_of_constant, constant_type, is_constant_of}
+use Rattle.valid_model.specs.Knowledge.{Knowledge, meaning_in, is_bool, is_integer, is_data, type_of_constant, constant_type, is_constant_of}
 use Rattle.valid_model.specs.Operations as operations
 use Rattle.valid_model.specs.Operations.{unary_operation_fits, binary_operation_fits, select_fits, operation_fits}
-use Rattle.valid_model.specs.Constants.{is_integer_like, are_truths, are_words_like, are_constants_of, are_constants_of_each, are_members, are_parts, composite_fits, composite_constant_fits, constant_fits}
-use Rattle.stage_model.specs.Value.{Value, Truth, Word, Composite, Layout, OneTruth, OneWord, Several, Layouts, NoLayouts, LayoutsOf, repeated, zero_of, parts_from}
+use Rattle.valid_model.specs.Constants.{is_integer_like, are_truths, are_words_like, are_constants_of, are_constants_of_each, are_members, composite_fits, composite_constant_fits}
+use Rattle.stage_model.specs.Value.{Value, Truth, Word, Composite, Layout, OneTruth, OneWord, Several, Layouts, repeated, parts_from}
 use Rattle.stage_model.specs.Program.{Program, layouts_of}
-use Rattle.stage_model.specs.Start.{Values, all_values, scalar_value, is_nonzero, specialized, constant_of}
-use Rattle.typed_model.specs.Values.{HasLayout, IsOfType}
+use Rattle.stage_model.specs.Start.{Values, all_values, scalar_value}
+use Rattle.typed_model.specs.Values.{HasLayout}
 use Rattle.typed_model.specs.Results.{scalar_layout, HasResult}
-use Rattle.typed_model.specs.Types.{AreTypes, HasTypes, HasTypedResult}
+use Rattle.typed_model.specs.Types.{HasTypes, HasTypedResult}
 use Rattle.typed_model.proofs.Rows.{operation_by_class}
 use Rattle.typed_model.proofs.Layouts.{truth_of, word_of, composite_has, both_have, HaveLayouts}
 use Rattle.typed_model.proofs.Scalars.{on_word, on_truth, on_words, on_compared, on_truths}
 use Rattle.typed_model.proofs.TypeLayouts.{same, type_has_layout, typed_result}
 use Rattle.typed_model.proofs.Parts.{with_front}
 use Rattle.typed_model.proofs.Composites.{AllHave, as_many}
-use Rattle.typed_model.proofs.MemoryValues.{value_has}
-use Rattle.typed_model.proofs.EffectsRun.{instruction, HasOperands}
 
 -- what is known before a constant: shapes of types, and values of constants
 pub record Before (program : Program) (known : Knowledge) (values : Values) : Type 0 where
@@ -129,10 +124,11 @@ members_known program known values types before (member ∷ members) (id ∷ ids
     by_layouts program known values types before member members id ids all (Some one) None of is constant go = cc
     by_layouts program known values types before member members id ids all (Some one) (Some more) of is constant go =
         let first = of_layout program known values types before id member one constant of in
-        let others = go more refl in
-        (first.value ∷ others.0,
-        ap (λ (o : Option Value). joined o (all_values values ids)) first.is ∙ ap (λ (o : Option (List Value)). joined (Some first.value) o) others.1,
-        both_have first.value (parts_from others.0) one more first.has others.2 ∙ is)
+        let others = go more refl in (
+          first.value ∷ others.0,
+          ap (λ (o : Option Value). joined o (all_values values ids)) first.is ∙ ap (λ (o : Option (List Value)). joined (Some first.value) o) others.1,
+          both_have first.value (parts_from others.0) one more first.has others.2 ∙ is,
+        )
 
 array_made : (program : Program) (known : Knowledge) (values : Values) → HasTypes program → Before program known values → (type element count : ℕ) (ids : List ℕ) (layout : Layout) (of_element : Option Layout) → program.layout element ≡ of_element
     → program.layout type ≡ Some layout → program.layout type ≡ option_map (λ l. Several (repeated count l)) of_element → ((length ids == count) && are_constants_of known element ids) ≡ true → HasTypedResult program type (made (all_values values ids))
@@ -259,7 +255,7 @@ select_value : (program : Program) (known : Knowledge) (values : Values) → Has
 select_value program known values types before type opcode condition a b fit =
     let o = operation_by_class Select opcode (select_class (class_of opcode) (first_of_both (operations.is_select (class_of opcode)) (select_fits known type condition a b) fit)) in
     let e = four (is_bool (constant_type known condition)) (is_bool (meaning_in (known type)) || is_integer (meaning_in (known type))) (is_constant_of type (meaning_in (known a))) (is_constant_of type (meaning_in (known b)))
-        (second_of_both (operations.is_select (class_of opcode)) (select_fits known type condition a b) fit) in
+    (second_of_both (operations.is_select (class_of opcode)) (select_fits known type condition a b) fit) in
     let k = scalar_kind program known values types before type (is_bool (meaning_in (known type))) refl e.1 in
     let u = truth_constant program known values types before condition e.0 in
     let v = of_layout program known values types before a type (scalar_layout k.0) (own_constant type (meaning_in (known a)) e.2) k.1 in

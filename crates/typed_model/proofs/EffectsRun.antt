@@ -1,32 +1,21 @@
 -- An instruction whose operands fit runs: it has an effect, and a result of its type.
-use Rattle.std.proofs.Common.{◌≡◌, ℕ, ◌==◌, Bool, true, false, ◌&&◌, ◌||◌, if◌then◌else◌, List, [], ◌∷◌, drop, slice_index, refl, ap, sym, ◌∙◌, subst, arith, Option, None, Some, is_some}
-use Rattle.std.specs.Option.{option_map, option_and_then}
-use Rattle.std.proofs.lemmas.Bool.Decides.{nat_tests}
+use Rattle.std.proofs.Common.{◌≡◌, ℕ, Bool, true, List, [], ◌∷◌, slice_index, refl, ap, ◌∙◌, Option, is_some}
+use Rattle.std.specs.Option.{option_map}
 use Rattle.spirv_model.specs.declared.module.Inst.{Inst}
-use Rattle.spirv_model.specs.declared.class.Class.{Class}
-use Rattle.spirv_model.specs.declared.class.Class.TheVariants as class
-use Rattle.spirv_model.specs.declared.class.ScalarClass.{ScalarClass}
 use Rattle.spirv_model.specs.declared.op.TheConstants as op
 use Rattle.spirv_model.specs.Operands.{entry_of, class_of, kinds}
-use Rattle.valid_model.specs.declared.meaning.Meaning.{Meaning}
-use Rattle.valid_model.specs.Knowledge.{is_bool, is_integer, is_data}
-use Rattle.check_model.specs.Typing.{Typing, type_of}
-use Rattle.check_model.specs.ScalarOperands.{scalar_operands_fit}
 use Rattle.check_model.specs.CompositeOperands.{composite_operands_fit}
 use Rattle.check_model.specs.MemoryOperands.{memory_operands_fit}
-use Rattle.stage_model.specs.Value.{Value, Layout, zero_of}
+use Rattle.stage_model.specs.Value.{Value}
 use Rattle.stage_model.specs.Program.{Program}
 use Rattle.stage_model.specs.Start.{Memory}
-use Rattle.stage_model.specs.Operations.{operation}
-use Rattle.stage_model.specs.Effect.{Effect, Passes, Gives, Writes, Enters, Goes, Stops, is_operation_class, has_result_class, read_ids, stores, result_of, effect_of}
-use Rattle.typed_model.specs.Types.{AreTypes, HasTypes, typing_in, Suits, AllSuit, HasTypedResult}
-use Rattle.typed_model.specs.Effects.{IsTypedEffect, Runs}
-use Rattle.typed_model.proofs.Rows.{is_operation, has_own_result, has_own_effect, IsOperation, operation_by_class}
-use Rattle.typed_model.proofs.TypeLayouts.{typed_result}
+use Rattle.stage_model.specs.Effect.{Effect, Passes, Gives, Writes, read_ids, result_of, effect_of}
+use Rattle.typed_model.specs.Types.{HasTypes, typing_in, AllSuit, HasTypedResult}
+use Rattle.typed_model.specs.Effects.{Runs}
 use Rattle.typed_model.proofs.Composites.{construct_result, shuffle_result, extract_result, insert_result}
-use Rattle.typed_model.proofs.MemoryValues.{value_has, load_result, IsStored, is_written, is_outside, store_result}
+use Rattle.typed_model.proofs.MemoryValues.{load_result, IsStored, is_written, is_outside, store_result}
 use Rattle.typed_model.proofs.Chains.{chain_result}
-use Rattle.typed_model.proofs.ScalarTypes.{scalar_typed, any_typed, all_typed}
+use Rattle.typed_model.proofs.ScalarTypes.{any_typed, all_typed}
 
 abbrev pub instruction : ℕ → List ℕ → Inst
 instruction opcode words = record { op = opcode; words = words }

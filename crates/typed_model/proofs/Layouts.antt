@@ -1,9 +1,8 @@
 -- What values of a layout are.
-use Rattle.std.proofs.Common.{◌≡◌, ℕ, Bool, List, [], ◌∷◌, refl, ap, ◌∙◌, Option, None, Some}
+use Rattle.std.proofs.Common.{◌≡◌, ℕ, Bool, List, refl, ap, ◌∙◌, Option, None, Some}
 use Rattle.std.specs.Option.{option_map}
-use Rattle.stage_model.specs.Value.{Value, Truth, Word, Composite, Pointer, Outside, Parts, NoParts, PartsOf, Layout, OneTruth, OneWord, Several, Layouts, NoLayouts, LayoutsOf, repeated, list_of, parts_from}
+use Rattle.stage_model.specs.Value.{Value, Truth, Word, Composite, Pointer, Outside, Parts, NoParts, PartsOf, Layout, OneTruth, OneWord, Several, Layouts, NoLayouts, LayoutsOf, list_of, parts_from}
 use Rattle.typed_model.specs.Values.{layouts_with, layout_in, layouts_in, HasLayout}
-use Rattle.typed_model.specs.Results.{HasResult}
 
 pub truth_of : (a : Value) → HasLayout OneTruth a → (b : Bool) × (a ≡ Truth b)
 truth_of (Truth b) has = (b, refl)

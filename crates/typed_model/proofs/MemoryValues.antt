@@ -1,32 +1,20 @@
 -- Loads, stores and chains: what they give and write, where their operands fit.
-use Rattle.std.proofs.Common.{◌≡◌, ℕ, zero, suc, ◌+◌, ◌-◌, ◌==◌, ◌&&◌, Bool, true, false, if◌then◌else◌, List, [], ◌∷◌, ◌++◌, drop, refl, ap, sym, ◌∙◌, subst, arith, Option, None, Some}
-use Rattle.std.specs.Prelude.{slice_get}
+use Rattle.std.proofs.Common.{◌≡◌, ℕ, Bool, true, List, [], ◌∷◌, ◌++◌, drop, refl, ap, sym, ◌∙◌, subst, Option, None, Some}
 use Rattle.std.specs.Option.{option_map, option_and_then}
-use Rattle.std.proofs.lemmas.Bool.Decides.{nat_tests}
-use Rattle.basics.proofs.Bools.{first_of_both, second_of_both}
 use Rattle.valid_model.specs.declared.meaning.Meaning.{Meaning}
-use Rattle.valid_model.specs.declared.meaning.Meaning.TheVariants.{Absent, Shape as OfShape, Constant, Variable, Value as ValueOf, Label, Other}
-use Rattle.valid_model.specs.declared.meaning.Shape.TheVariants.{Void, Bool as OneBool, Int, BoolVector, IntVector, Array, Struct, Pointer as PointerType, Function}
-use Rattle.valid_model.specs.Knowledge.{is_integer}
-use Rattle.valid_model.specs.ModuleFacts.{is_word}
+use Rattle.valid_model.specs.declared.meaning.Meaning.TheVariants.{Shape as OfShape}
+use Rattle.valid_model.specs.declared.meaning.Shape.TheVariants.{Pointer as PointerType}
 use Rattle.valid_model.specs.Shapes.{pointee_id}
-use Rattle.check_model.specs.declared.components.Component.{Component}
-use Rattle.check_model.specs.declared.components.Component.TheVariants as component
-use Rattle.check_model.specs.declared.components.Part.{Part}
-use Rattle.check_model.specs.declared.components.Part.TheVariants as part
-use Rattle.check_model.specs.CompositeOperands.{is_of_type, member_part}
-use Rattle.check_model.specs.MemoryOperands.{load_fits, is_object_of, store_fits, indexed, member_at, chain_part, chain_step, chain_along, is_pointer_to, chain_fits}
-use Rattle.check_model.specs.Typing.{Typing, type_id, type_of, meaning_of}
-use Rattle.stage_model.specs.Value.{Value, Truth, Word, Composite, Pointer, Outside, Parts, NoParts, PartsOf, Layout, OneTruth, OneWord, Several, Layouts, NoLayouts, LayoutsOf, size_of, repeated, words_with, words_of, words_of_parts, value_of, parts_of, zero_of, part_at, part_along}
-use Rattle.stage_model.specs.Program.{Program, held_layout, layouts_of}
+use Rattle.check_model.specs.MemoryOperands.{load_fits, is_object_of, store_fits}
+use Rattle.check_model.specs.Typing.{type_id, type_of, meaning_of}
+use Rattle.stage_model.specs.Value.{Value, Truth, Word, Composite, Pointer, Outside, Parts, NoParts, PartsOf, Layout, OneTruth, OneWord, Several, Layouts, NoLayouts, LayoutsOf, size_of, words_with, words_of, words_of_parts, value_of, parts_of, zero_of, part_along}
+use Rattle.stage_model.specs.Program.{Program}
 use Rattle.stage_model.specs.Start.{Memory}
-use Rattle.stage_model.specs.Effect.{Effect, Passes, Writes, words_from, place_of, loaded, stored, stores, all_words, pointer_along, chained, chain_of, one}
-use Rattle.typed_model.specs.Values.{layouts_with, layout_in, layouts_in, HasLayout, IsData, PointsTo, IsPointer, IsOfMeaning, IsOfType}
-use Rattle.typed_model.specs.Results.{scalar_layout, HasResult}
-use Rattle.typed_model.specs.Types.{AreTypes, HasTypes, typing_in, part_layout, Suits, AllSuit, HasTypedResult}
-use Rattle.typed_model.proofs.Layouts.{word_of}
-use Rattle.typed_model.proofs.TypeLayouts.{same, word_is, part_of_type, typed_result, type_has_layout, has_type_layout, data_of, data_no_pointer}
-use Rattle.typed_model.proofs.Parts.{layout_at, repeated_same, members_at, member_found}
+use Rattle.stage_model.specs.Effect.{Effect, Passes, Writes, words_from, place_of, loaded, stored, stores, one}
+use Rattle.typed_model.specs.Values.{layouts_with, layout_in, layouts_in, HasLayout, PointsTo, IsPointer, IsOfMeaning, IsOfType}
+use Rattle.typed_model.specs.Results.{HasResult}
+use Rattle.typed_model.specs.Types.{HasTypes, typing_in, Suits, HasTypedResult}
+use Rattle.typed_model.proofs.TypeLayouts.{word_is, typed_result, type_has_layout}
 
 -- ---- values of words
 

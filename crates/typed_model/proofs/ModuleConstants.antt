@@ -1,16 +1,13 @@
 -- An instruction of the module's level that defines a value keeps the judgement.
-use Rattle.std.proofs.Common.{◌≡◌, ℕ, zero, suc, ◌+◌, ◌<◌, ◌≤◌, ◌==◌, ◌&&◌, Bool, true, false, not, if◌then◌else◌, List, [], ◌∷◌, length, take, slice_index, refl, ap, sym, ◌∙◌, subst, arith, Option, None, Some, is_some}
-use Rattle.std.specs.Option.{option_map, option_and_then}
+use Rattle.std.proofs.Common.{◌≡◌, ℕ, zero, suc, ◌+◌, ◌<◌, ◌==◌, Bool, true, false, if◌then◌else◌, List, [], ◌∷◌, length, take, refl, ap, sym, ◌∙◌, subst, arith, Option, None, Some, is_some}
+use Rattle.std.specs.Option.{option_map}
 use Rattle.spirv_model.specs.declared.module.Inst.{Inst}
 use Rattle.spirv_model.specs.declared.op.TheConstants as op
-use Rattle.spirv_model.specs.declared.class.Class.{Class}
-use Rattle.spirv_model.specs.declared.class.Class.TheVariants as class
-use Rattle.spirv_model.specs.Operands.{word_at, result, entry_of, class_of, kinds}
+use Rattle.spirv_model.specs.Operands.{word_at, entry_of, class_of, kinds}
 use Rattle.valid_model.specs.declared.meaning.IdFacts.{IdFacts}
-use Rattle.valid_model.specs.declared.meaning.Meaning.{Meaning}
 use Rattle.valid_model.specs.declared.meaning.Meaning.TheVariants.{Absent, Constant}
 use Rattle.valid_model.specs.Definitions.{gives, definition, inst_at, id_twice}
-use Rattle.valid_model.specs.Knowledge.{Knowledge, meaning_in, is_data}
+use Rattle.valid_model.specs.Knowledge.{meaning_in, is_data}
 use Rattle.valid_model.specs.Constants.{constant_fits}
 use Rattle.valid_model.specs.Meanings.{is_constant, known_before, meaning}
 use Rattle.valid_model.proofs.KnownIds.{known_stays, unknown_without_definition}
@@ -19,19 +16,17 @@ use Rattle.stage_model.specs.Value.{Value, Pointer, zero_of}
 use Rattle.stage_model.specs.Program.{Program, program_of}
 use Rattle.stage_model.specs.Start.{Values, constant_of, with_definition}
 use Rattle.state_model.specs.declared.parts.SpecValues.{SpecValues}
-use Rattle.typed_model.specs.Values.{IsOfType}
-use Rattle.typed_model.specs.Results.{HasResult}
-use Rattle.typed_model.specs.Types.{AreTypes, HasTypes, Suits, HasTypedResult}
-use Rattle.typed_model.specs.Judgement.{HasValue, AreTyped}
+use Rattle.typed_model.specs.Types.{HasTypes, Suits, HasTypedResult}
+use Rattle.typed_model.specs.Judgement.{AreTyped}
 use Rattle.typed_model.proofs.TypeLayouts.{typed_result}
 use Rattle.typed_model.proofs.MemoryValues.{value_has}
 use Rattle.typed_model.proofs.PlainRuns.{at_op}
 use Rattle.typed_model.proofs.EffectsRun.{instruction}
-use Rattle.typed_model.proofs.ResultIds.{defines, defined_id, is_named, named}
+use Rattle.typed_model.proofs.ResultIds.{defines, defined_id}
 use Rattle.typed_model.proofs.TypedSteps.{visible_by, typed_with}
 use Rattle.typed_model.proofs.ValidTypes.{stays_known}
 use Rattle.typed_model.proofs.Constants.{Before}
-use Rattle.typed_model.proofs.ConstantValues.{HasConstant, constant_value}
+use Rattle.typed_model.proofs.ConstantValues.{constant_value}
 use Rattle.typed_model.proofs.ModuleValues.{with_one}
 use Rattle.typed_model.proofs.ModuleSteps.{constant_suits, undef_suits, variable_suits}
 

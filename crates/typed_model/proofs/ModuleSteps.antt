@@ -1,15 +1,14 @@
 -- Values are typed from one place of the module's level to the next.
-use Rattle.std.proofs.Common.{◌≡◌, ℕ, zero, suc, ◌+◌, ◌<◌, ◌≤◌, ◌==◌, ◌&&◌, ◌||◌, ◌⊎◌, inl, inr, Bool, true, false, not, if◌then◌else◌, List, [], ◌∷◌, length, take, slice_index, refl, ap, sym, ◌∙◌, subst, arith, Option, None, Some, is_some}
-use Rattle.std.specs.Option.{option_map, option_and_then, unwrap_or}
+use Rattle.std.proofs.Common.{◌≡◌, ℕ, ◌<◌, ◌==◌, Bool, true, false, if◌then◌else◌, List, [], ◌∷◌, length, slice_index, refl, ap, sym, ◌∙◌, subst, Option, None, Some, is_some}
+use Rattle.std.specs.Option.{option_and_then, unwrap_or}
 use Rattle.spirv_model.specs.declared.module.Inst.{Inst}
 use Rattle.spirv_model.specs.declared.op.TheConstants as op
 use Rattle.spirv_model.specs.declared.class.Class.{Class}
 use Rattle.spirv_model.specs.declared.class.Class.TheVariants as class
-use Rattle.spirv_model.specs.Operands.{word_at, result, entry_of, class_of, kinds}
-use Rattle.valid_model.specs.declared.meaning.Meaning.{Meaning}
+use Rattle.spirv_model.specs.Operands.{word_at, entry_of, class_of, kinds}
 use Rattle.valid_model.specs.declared.meaning.Meaning.TheVariants.{Constant, Variable, Value as ValueOf, Other}
-use Rattle.valid_model.specs.Definitions.{gives, definition, inst_at, id_twice}
-use Rattle.valid_model.specs.Knowledge.{Knowledge, means, meaning_in, is_storage_class}
+use Rattle.valid_model.specs.Definitions.{definition, inst_at, id_twice}
+use Rattle.valid_model.specs.Knowledge.{Knowledge, means, is_storage_class}
 use Rattle.valid_model.specs.Types.{is_type_class, is_type, type_of}
 use Rattle.valid_model.specs.Meanings.{is_constant_class, is_constant, constant_known, variable_meaning, other_meaning, known_of, known_before, meaning}
 use Rattle.check_model.specs.Typing.{type_id, constant_in, constant_word}
@@ -18,8 +17,7 @@ use Rattle.stage_model.specs.Program.{Program, program_of}
 use Rattle.stage_model.specs.Start.{Values, constant_of}
 use Rattle.state_model.specs.declared.parts.SpecValues.{SpecValues}
 use Rattle.typed_model.specs.Values.{IsOfType}
-use Rattle.typed_model.specs.Types.{AreTypes, HasTypes, Suits, HasTypedResult}
-use Rattle.typed_model.specs.Judgement.{HasValue, AreTyped}
+use Rattle.typed_model.specs.Types.{HasTypes, Suits}
 use Rattle.typed_model.proofs.TypeLayouts.{same}
 use Rattle.typed_model.proofs.PlainRuns.{at_op, whole_variable}
 use Rattle.typed_model.proofs.EffectsRun.{instruction}

@@ -1,5 +1,5 @@
 -- Behind the module's level each id that it defines has a value of its type.
-use Rattle.std.proofs.Common.{◌≡◌, ℕ, zero, suc, ◌+◌, ◌<◌, ◌≤◌, ◌==◌, ◌&&◌, ◌||◌, Bool, true, false, not, List, [], ◌∷◌, length, take, refl, ap, sym, ◌∙◌, subst, arith, Option, None, Some}
+use Rattle.std.proofs.Common.{◌≡◌, ℕ, zero, suc, ◌+◌, ◌<◌, ◌==◌, ◌&&◌, ◌||◌, Bool, true, false, not, List, [], length, take, refl, ap, sym, ◌∙◌, subst, arith, Option, Some}
 use Rattle.std.proofs.lemmas.Bool.Decides.{nat_tests}
 use Rattle.spirv_model.specs.declared.module.Inst.{Inst}
 use Rattle.spirv_model.specs.declared.module.Words.{Words}
@@ -10,21 +10,21 @@ use Rattle.spirv_model.specs.Operands.{word_at, entry_of, class_of}
 use Rattle.body_model.specs.Classes.{is_module_level_class, is_module_level}
 use Rattle.valid_model.specs.Definitions.{inst_at}
 use Rattle.valid_model.specs.Knowledge.{is_data}
-use Rattle.valid_model.specs.Types.{is_type_class, is_type}
+use Rattle.valid_model.specs.Types.{is_type_class}
 use Rattle.valid_model.specs.Constants.{constant_fits}
-use Rattle.valid_model.specs.Meanings.{is_constant_class, is_constant, known_before, meaning}
+use Rattle.valid_model.specs.Meanings.{is_constant_class, is_constant, known_before}
 use Rattle.valid_model.specs.FirstFault.{bad_constant}
 use Rattle.check_model.specs.Intervals.{Interval}
 use Rattle.check_model.specs.Typing.{typing_of}
 use Rattle.check_model.specs.OperandTypes.{operands_fit_class, operands_fit}
-use Rattle.stage_model.specs.Program.{Program, program_of}
-use Rattle.stage_model.specs.Start.{Values, no_values, with_definition, defined_by}
+use Rattle.stage_model.specs.Program.{program_of}
+use Rattle.stage_model.specs.Start.{Values, with_definition, defined_by}
 use Rattle.state_model.specs.declared.parts.SpecValues.{SpecValues}
 use Rattle.typed_model.specs.Judgement.{AreTyped}
 use Rattle.typed_model.specs.Modules.{IsSound, IsFront}
 use Rattle.typed_model.proofs.ResultIds.{defines, is_named, named}
 use Rattle.typed_model.proofs.TypedSteps.{seen, visible_by}
-use Rattle.typed_model.proofs.ValidTypes.{KeepsRules, keeps_rules, valid_types}
+use Rattle.typed_model.proofs.ValidTypes.{keeps_rules, valid_types}
 use Rattle.typed_model.proofs.ModuleValues.{defined_next}
 use Rattle.typed_model.proofs.ModuleConstants.{constant_typed, undef_typed, variable_typed_here}
 use Rattle.typed_model.proofs.SilentSteps.{setting_typed, type_typed, function_typed}

@@ -1,10 +1,9 @@
 -- The types of a module: each has the layout of its shape.
 use Rattle.std.proofs.Common.{◌≡◌, ℕ, zero, suc, ◌+◌, ◌*◌, ◌<◌, ◌≤◌, ◌==◌, ◌&&◌, ◌⊎◌, inl, inr, Bool, true, false, nat_le, nat_lt, if◌then◌else◌, List, [], ◌∷◌, length, take, refl, ap, sym, ◌∙◌, subst, arith, Option, None, Some}
 use Rattle.std.specs.Prelude.{is_none}
-use Rattle.std.specs.List.{fold, list_all}
+use Rattle.std.specs.List.{list_all}
 use Rattle.std.specs.Option.{option_map, option_and_then, unwrap_or}
 use Rattle.std.proofs.lemmas.Bool.{leb-true}
-use Rattle.std.proofs.lemmas.Bool.Decides.{nat_tests}
 use Rattle.std.proofs.lemmas.List.Sums.{fold_more}
 use Rattle.limits.specs.declared.TheConstants.{TYPE_WORDS}
 use Rattle.basics.proofs.Bools.{first_of_both, second_of_both}
@@ -13,13 +12,13 @@ use Rattle.spirv_model.specs.declared.op.TheConstants as op
 use Rattle.spirv_model.specs.Operands.{word_at, words_from}
 use Rattle.valid_model.specs.declared.meaning.IdFacts.{IdFacts}
 use Rattle.valid_model.specs.declared.meaning.Meaning.{Meaning}
-use Rattle.valid_model.specs.declared.meaning.Meaning.TheVariants.{Absent, Shape as OfShape, Constant, Variable, Value, Label, Other}
+use Rattle.valid_model.specs.declared.meaning.Meaning.TheVariants.{Absent, Shape as OfShape, Variable, Value, Label, Other}
 use Rattle.valid_model.specs.declared.meaning.Shape.{Shape}
 use Rattle.valid_model.specs.declared.meaning.Shape.TheVariants.{Void, Bool as Truth, Int, BoolVector, IntVector, Array, Struct, Pointer, Function}
 use Rattle.valid_model.specs.Definitions.{gives, inst_at, no_instruction}
 use Rattle.valid_model.specs.Knowledge.{Knowledge, nothing_known, a_type, means, meaning_in, size_in, length_in, is_data, is_data_shape, is_storage_class, is_void}
-use Rattle.valid_model.specs.Types.{is_type, integer_type, vector_shape, vector_type, array_type, members_size, struct_size, struct_type, pointer_type, function_type, type_of}
-use Rattle.valid_model.specs.Meanings.{is_constant, constant_known, variable_meaning, other_meaning, known_of, known_after, known_by, known_before, meaning}
+use Rattle.valid_model.specs.Types.{is_type, vector_shape, vector_type, array_type, members_size, struct_type, pointer_type, type_of}
+use Rattle.valid_model.specs.Meanings.{is_constant, known_of, known_after, known_by, known_before, meaning}
 use Rattle.valid_model.proofs.KnownIds.{known_stays}
 use Rattle.stage_model.specs.Value.{Layout, OneTruth, OneWord, Several, Layouts, NoLayouts, LayoutsOf, repeated}
 use Rattle.stage_model.specs.Program.{layouts_of, layout_of_shape, layout_of, layouts_after, layouts_by}
@@ -135,10 +134,11 @@ members_stay : (known : Knowledge) (layout later : ℕ → Option Layout) → Ha
 members_stay known layout later have extends [] all = (NoLayouts, refl, refl)
 members_stay known layout later have extends (id ∷ ids) all =
     let own = have id (first_of_both (is_data (meaning_in (known id))) (list_all (λ id. is_data (meaning_in (known id))) ids) all) in
-    let rest = members_stay known layout later have extends ids (second_of_both (is_data (meaning_in (known id))) (list_all (λ id. is_data (meaning_in (known id))) ids) all) in
-    (LayoutsOf own.0 rest.0,
-    ap (λ (o : Option Layout). with_front o (layouts_of layout ids)) own.1 ∙ ap (λ (o : Option Layouts). with_front (Some own.0) o) rest.1,
-    ap (λ (o : Option Layout). with_front o (layouts_of later ids)) (extends id own.0 own.1) ∙ ap (λ (o : Option Layouts). with_front (Some own.0) o) rest.2)
+    let rest = members_stay known layout later have extends ids (second_of_both (is_data (meaning_in (known id))) (list_all (λ id. is_data (meaning_in (known id))) ids) all) in (
+      LayoutsOf own.0 rest.0,
+      ap (λ (o : Option Layout). with_front o (layouts_of layout ids)) own.1 ∙ ap (λ (o : Option Layouts). with_front (Some own.0) o) rest.1,
+      ap (λ (o : Option Layout). with_front o (layouts_of later ids)) (extends id own.0 own.1) ∙ ap (λ (o : Option Layouts). with_front (Some own.0) o) rest.2,
+    )
 
 shape_stays : (known : Knowledge) (layout later : ℕ → Option Layout) → HaveLayout known layout → Extends layout later → (shape : Shape) → IsSoundShape known shape → layout_of_shape layout shape ≡ layout_of_shape later shape
 shape_stays known layout later have extends (Array element count) is = let own = have element is in ap (option_map (λ l. Several (repeated count l))) (own.1 ∙ sym (extends element own.0 own.1))
@@ -220,7 +220,6 @@ still_fresh true None own new made fresh is = cc
 still_fresh true (Some facts) own new made fresh is = cc
 still_fresh false before own new made fresh is = fresh is
 
-
 step : (meaning : ℕ → Meaning) (known : Knowledge) (layout : ℕ → Option Layout) (inst : Inst) → Fits known layout → HaveLayout known layout → ((id : ℕ) (shape : Shape) → meaning_in (known_after known inst id) ≡ OfShape shape → meaning id ≡ OfShape shape)
     → Fits (known_after known inst) (layouts_after meaning layout inst) × HaveLayout (known_after known inst) (layouts_after meaning layout inst)
 unfolding known_after
@@ -228,17 +227,19 @@ step meaning known layout inst fits have agrees =
     let later : ℕ → Option Layout = layouts_after meaning layout inst in
     let extends : Extends layout later = λ id own is. layout_kept (gives id inst) (layout id) (layout_of layout (meaning id)) own is in
     let rests : (id : ℕ) (shape : Shape) → meaning_in (known_after known inst id) ≡ OfShape shape → IsSoundShape known shape =
-        λ id shape is. elim (new_or_old (gives id inst) (known id) (known_of known inst) (OfShape shape) is) [ inl new ↦ sound_shape known inst shape new | inr old ↦ fits.sounds id shape old ] in
+    λ id shape is. elim (new_or_old (gives id inst) (known id) (known_of known inst) (OfShape shape) is) [ inl new ↦ sound_shape known inst shape new | inr old ↦ fits.sounds id shape old ] in
     let first : (id : ℕ) (shape : Shape) → meaning_in (known_after known inst id) ≡ OfShape shape → later id ≡ layout_of_shape layout shape =
-        λ id shape is. layout_case (gives id inst) (known id) (layout id) (known_of known inst) layout (meaning id) shape (fits.fresh id) (fits.shaped id shape) (agrees id shape is) is in
-    (record {
-      sounds = λ id shape is. data_sound known (known_after known inst) (λ other. known_kept (gives other inst) (known other) (known_of known inst)) shape (rests id shape is);
-      shaped = λ id shape is. first id shape is ∙ shape_stays known layout later have extends shape (rests id shape is);
-      fresh = λ id none. still_fresh (gives id inst) (known id) (layout id) (layout_of layout (meaning id)) (known_of known inst) (fits.fresh id) none;
-    }, λ id is.
-        let s = shape_by (meaning_in (known_after known inst id)) is in
-        let own = shape_there known layout have s.0 (rests id s.0 s.1) s.2 in
-        (own.0, first id s.0 s.1 ∙ own.1))
+    λ id shape is. layout_case (gives id inst) (known id) (layout id) (known_of known inst) layout (meaning id) shape (fits.fresh id) (fits.shaped id shape) (agrees id shape is) is in (
+      record {
+        sounds = λ id shape is. data_sound known (known_after known inst) (λ other. known_kept (gives other inst) (known other) (known_of known inst)) shape (rests id shape is);
+        shaped = λ id shape is. first id shape is ∙ shape_stays known layout later have extends shape (rests id shape is);
+        fresh = λ id none. still_fresh (gives id inst) (known id) (layout id) (layout_of layout (meaning id)) (known_of known inst) (fits.fresh id) none;
+      },
+      λ id is.
+          let s = shape_by (meaning_in (known_after known inst id)) is in
+          let own = shape_there known layout have s.0 (rests id s.0 s.1) s.2 in
+          (own.0, first id s.0 s.1 ∙ own.1),
+    )
 
 -- ---- of a whole list
 
@@ -272,18 +273,20 @@ abbrev pub FitAt : List Inst → ℕ → Type 0
 FitAt insts place = Fits (known_before insts place) (layouts_at insts place) × HaveLayout (known_before insts place) (layouts_at insts place)
 
 pub all_fit : (insts : List Inst) (place : ℕ) → place ≤ length insts → FitAt insts place
-all_fit insts zero within =
-    (record {
-      sounds = λ id shape is. absurd (no_meaning shape (ap meaning_in (sym (known_first insts id)) ∙ is));
-      shaped = λ id shape is. absurd (no_meaning shape (ap meaning_in (sym (known_first insts id)) ∙ is));
-      fresh = λ id none. layouts_first insts id;
-    }, λ id is. let e : is_data (meaning_in (known_before insts 0 id)) ≡ false = ap (λ (k : Option IdFacts). is_data (meaning_in k)) (known_first insts id) in absurd (cc))
+all_fit insts zero within = (
+  record {
+    sounds = λ id shape is. absurd (no_meaning shape (ap meaning_in (sym (known_first insts id)) ∙ is));
+    shaped = λ id shape is. absurd (no_meaning shape (ap meaning_in (sym (known_first insts id)) ∙ is));
+    fresh = λ id none. layouts_first insts id;
+  },
+  λ id is. let e : is_data (meaning_in (known_before insts 0 id)) ≡ false = ap (λ (k : Option IdFacts). is_data (meaning_in k)) (known_first insts id) in absurd (cc),
+)
 all_fit insts (suc place) within =
     let e : place + 1 ≡ suc place = omega arith in
     let before = all_fit insts place (omega arith) in
     let k = known_next insts place (omega arith) in let l = layouts_next insts place (omega arith) in
     let after = step (meaning insts) (known_before insts place) (layouts_at insts place) (inst_at insts place) before.0 before.1
-        (λ id shape is. agrees insts (place + 1) id shape (ap (λ (known : Knowledge). meaning_in (known id)) k ∙ is)) in
+    (λ id shape is. agrees insts (place + 1) id shape (ap (λ (known : Knowledge). meaning_in (known id)) k ∙ is)) in
     subst (FitAt insts) e
     (subst (λ (layout : ℕ → Option Layout). Fits (known_before insts (place + 1)) layout × HaveLayout (known_before insts (place + 1)) layout) (sym l)
     (subst (λ (known : Knowledge). Fits known (layouts_after (meaning insts) (layouts_at insts place) (inst_at insts place)) × HaveLayout known (layouts_after (meaning insts) (layouts_at insts place) (inst_at insts place))) (sym k) after))

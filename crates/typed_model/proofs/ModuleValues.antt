@@ -1,26 +1,19 @@
 -- The module's level gives each constant, OpUndef and variable a value of its type.
-use Rattle.std.proofs.Common.{◌≡◌, ℕ, zero, suc, ◌+◌, ◌<◌, ◌≤◌, ◌==◌, ◌&&◌, ◌||◌, ◌⊎◌, inl, inr, Bool, true, false, not, if◌then◌else◌, List, [], ◌∷◌, length, take, slice_index, refl, ap, sym, ◌∙◌, subst, arith, Option, None, Some, is_some}
-use Rattle.std.specs.Prelude.{is_none}
-use Rattle.std.specs.List.{fold, list_all}
-use Rattle.std.specs.Option.{option_map, option_and_then, unwrap_or}
+use Rattle.std.proofs.Common.{◌≡◌, ℕ, zero, suc, ◌+◌, ◌<◌, ◌≤◌, ◌==◌, inl, inr, Bool, true, false, if◌then◌else◌, List, [], ◌∷◌, length, take, slice_index, refl, ap, sym, ◌∙◌, arith, Option, None, Some, is_some}
+use Rattle.std.specs.Option.{option_map}
 use Rattle.std.proofs.lemmas.Bool.{cases_lt, lt-ltb}
 use Rattle.std.proofs.lemmas.Bool.Decides.{nat_tests}
 use Rattle.std.proofs.lemmas.List.Sums.{fold_more}
 use Rattle.spirv_model.specs.declared.module.Inst.{Inst}
-use Rattle.spirv_model.specs.declared.class.Class.{Class}
-use Rattle.spirv_model.specs.declared.class.Class.TheVariants as class
-use Rattle.spirv_model.specs.declared.op.TheConstants as op
-use Rattle.spirv_model.specs.Operands.{word_at, result, class_of}
+use Rattle.spirv_model.specs.Operands.{result}
 use Rattle.valid_model.specs.Definitions.{has_result, gives, definition, inst_at, no_instruction, is_earlier, twice_by, id_twice}
-use Rattle.valid_model.specs.Knowledge.{Knowledge, meaning_in}
+use Rattle.valid_model.specs.Knowledge.{meaning_in}
 use Rattle.valid_model.specs.Meanings.{known_of, known_before, meaning}
 use Rattle.valid_model.proofs.KnownIds.{known_by_definition}
 use Rattle.stage_model.specs.Value.{Value}
-use Rattle.stage_model.specs.Program.{Program, program_of}
+use Rattle.stage_model.specs.Program.{Program}
 use Rattle.state_model.specs.declared.parts.SpecValues.{SpecValues}
 use Rattle.stage_model.specs.Start.{Values, no_values, with_value, constant_of, with_definition, defined_by}
-use Rattle.typed_model.specs.Judgement.{HasValue, AreTyped}
-use Rattle.typed_model.proofs.TypedSteps.{gives_at}
 
 -- ---- the definition of a result
 

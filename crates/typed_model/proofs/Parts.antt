@@ -1,25 +1,23 @@
 -- Parts of composites and of their layouts.
-use Rattle.std.proofs.Common.{◌≡◌, ℕ, zero, suc, ◌+◌, ◌<◌, ◌==◌, Bool, true, false, nat_lt, if◌then◌else◌, List, [], ◌∷◌, ◌++◌, length, take, drop, refl, ap, sym, ◌∙◌, subst, arith, Option, None, Some}
+use Rattle.std.proofs.Common.{◌≡◌, ℕ, zero, suc, ◌+◌, ◌<◌, Bool, true, false, nat_lt, if◌then◌else◌, List, [], ◌∷◌, ◌++◌, length, take, drop, refl, ap, sym, ◌∙◌, subst, arith, Option, None, Some}
 use Rattle.std.specs.Prelude.{slice_get}
 use Rattle.std.specs.Option.{option_map, option_and_then}
 use Rattle.std.proofs.lemmas.Bool.{lt-ltb, ltb-true}
 use Rattle.valid_model.specs.declared.meaning.Meaning.{Meaning}
-use Rattle.valid_model.specs.declared.meaning.Meaning.TheVariants.{Absent, Shape as OfShape, Constant, Variable, Value as ValueOf, Label, Other}
-use Rattle.valid_model.specs.declared.meaning.Shape.TheVariants.{Void, Bool as OneBool, Int, BoolVector, IntVector, Array, Struct, Pointer, Function}
-use Rattle.check_model.specs.declared.components.Component.{Component}
+use Rattle.valid_model.specs.declared.meaning.Meaning.TheVariants.{Shape as OfShape}
+use Rattle.valid_model.specs.declared.meaning.Shape.TheVariants.{BoolVector, IntVector, Array, Struct}
 use Rattle.check_model.specs.declared.components.Component.TheVariants as component
 use Rattle.check_model.specs.declared.components.Part.{Part}
 use Rattle.check_model.specs.declared.components.Part.TheVariants as part
-use Rattle.check_model.specs.ScalarOperands.{is_truth}
-use Rattle.check_model.specs.CompositeOperands.{component_part, member_part, part_at, part_of, part_along}
+use Rattle.check_model.specs.CompositeOperands.{member_part, part_at, part_of, part_along}
 use Rattle.check_model.specs.Typing.{Typing}
-use Rattle.stage_model.specs.Value.{Value, Composite, Parts, NoParts, PartsOf, Layout, OneTruth, OneWord, Several, Layouts, NoLayouts, LayoutsOf, repeated, list_of, parts_from}
+use Rattle.stage_model.specs.Value.{Value, Composite, Parts, Layout, OneTruth, OneWord, Several, Layouts, NoLayouts, LayoutsOf, repeated, list_of, parts_from}
 use Rattle.stage_model.specs.Program.{Program, layouts_of}
-use Rattle.stage_model.specs.Operations.{parts_in, composite, extracted, replaced, inserted}
-use Rattle.typed_model.specs.Values.{layout_in, layouts_in, HasLayout}
-use Rattle.typed_model.specs.Results.{scalar_layout, HasResult}
-use Rattle.typed_model.specs.Types.{AreTypes, HasTypes, typing_in, part_layout}
-use Rattle.typed_model.proofs.Layouts.{several_of, composite_has, Front, front_of, no_parts, both_have, HaveLayouts, same_parts}
+use Rattle.stage_model.specs.Operations.{composite, extracted, replaced, inserted}
+use Rattle.typed_model.specs.Values.{layouts_in, HasLayout}
+use Rattle.typed_model.specs.Results.{HasResult}
+use Rattle.typed_model.specs.Types.{HasTypes, typing_in, part_layout}
+use Rattle.typed_model.proofs.Layouts.{several_of, composite_has, front_of, both_have, HaveLayouts, same_parts}
 use Rattle.typed_model.proofs.Scalars.{HaveResults}
 
 -- ---- of layouts

@@ -1,9 +1,7 @@
 -- Instructions of a block run where their operands fit: by their class, and the others by their opcode.
-use Rattle.std.proofs.Common.{◌≡◌, ℕ, ◌==◌, ◌⊎◌, inl, inr, Bool, true, false, ◌&&◌, ◌||◌, if◌then◌else◌, List, [], ◌∷◌, drop, slice_index, refl, ap, sym, ◌∙◌, subst, arith, Option, None, Some, is_some}
+use Rattle.std.proofs.Common.{◌≡◌, ℕ, ◌==◌, Bool, true, false, ◌||◌, if◌then◌else◌, List, [], ◌∷◌, drop, slice_index, refl, ap, sym, ◌∙◌, subst, Option, None, Some, is_some}
 use Rattle.std.specs.Option.{option_map, option_and_then}
-use Rattle.std.proofs.lemmas.Bool.Decides.{nat_tests}
 use Rattle.spirv_model.specs.declared.module.Inst.{Inst}
-use Rattle.spirv_model.specs.declared.class.Class.{Class}
 use Rattle.spirv_model.specs.declared.class.Class.TheVariants as class
 use Rattle.spirv_model.specs.declared.class.ScalarClass.{ScalarClass}
 use Rattle.spirv_model.specs.declared.op.TheConstants as op
@@ -12,7 +10,7 @@ use Rattle.valid_model.specs.declared.meaning.Meaning.{Meaning}
 use Rattle.valid_model.specs.declared.meaning.Meaning.TheVariants.{Shape as OfShape, Variable}
 use Rattle.valid_model.specs.declared.meaning.Shape.TheVariants.{Bool as OneBool, Int, Pointer as PointerType}
 use Rattle.valid_model.specs.Knowledge.{is_bool, is_integer, is_data}
-use Rattle.check_model.specs.Typing.{Typing, type_id, type_of, meaning_of}
+use Rattle.check_model.specs.Typing.{type_id, type_of, meaning_of}
 use Rattle.check_model.specs.ScalarOperands.{scalar_operands_fit}
 use Rattle.check_model.specs.CompositeOperands.{composite_operands_fit}
 use Rattle.check_model.specs.MemoryOperands.{memory_operands_fit}
@@ -20,16 +18,16 @@ use Rattle.stage_model.specs.Value.{Value, Truth, Word, Pointer, Layout, OneTrut
 use Rattle.stage_model.specs.Program.{Program, pointee, held, held_layout}
 use Rattle.stage_model.specs.Start.{Memory}
 use Rattle.stage_model.specs.Operations.{operation}
-use Rattle.stage_model.specs.Effect.{Effect, Passes, Gives, Writes, Enters, Goes, Stops, is_operation_class, has_result_class, read_ids, result_of, branches, target_for, picks, effect_of}
-use Rattle.typed_model.specs.Values.{PointsTo, IsPointer, IsOfMeaning, IsOfType}
-use Rattle.typed_model.specs.Types.{AreTypes, HasTypes, typing_in, Suits, AllSuit, HasTypedResult}
-use Rattle.typed_model.specs.Effects.{IsTypedEffect, Runs}
-use Rattle.typed_model.proofs.Rows.{is_operation, has_own_result, has_own_effect, IsOperation, operation_by_class}
+use Rattle.stage_model.specs.Effect.{Gives, Goes, is_operation_class, has_result_class, read_ids, result_of, branches, target_for, picks, effect_of}
+use Rattle.typed_model.specs.Values.{IsOfMeaning, IsOfType}
+use Rattle.typed_model.specs.Types.{HasTypes, typing_in, Suits, AllSuit}
+use Rattle.typed_model.specs.Effects.{Runs}
+use Rattle.typed_model.proofs.Rows.{has_own_result, has_own_effect, operation_by_class}
 use Rattle.typed_model.proofs.Layouts.{truth_of, word_of}
 use Rattle.typed_model.proofs.TypeLayouts.{same, typed_result, type_has_layout}
 use Rattle.typed_model.proofs.MemoryValues.{value_has}
 use Rattle.typed_model.proofs.ScalarTypes.{scalar_typed}
-use Rattle.typed_model.proofs.EffectsRun.{instruction, gives_result, HasOperands, ReadsSuit, load_runs, store_runs, chain_runs, construct_runs, extract_runs, insert_runs, shuffle_runs, any_runs, all_run}
+use Rattle.typed_model.proofs.EffectsRun.{instruction, gives_result, load_runs, store_runs, chain_runs, construct_runs, extract_runs, insert_runs, shuffle_runs, any_runs, all_run}
 
 -- ---- by a test of the opcode
 
@@ -114,8 +112,27 @@ unnamed opcode no_result no_effect =
     let p = split (opcode == op.BRANCH_CONDITIONAL) _ o.1 in let q = split (opcode == op.SWITCH) _ p.1 in let r = split (opcode == op.RETURN) _ q.1 in
     let s = split (opcode == op.UNREACHABLE) _ r.1 in
     record {
-      phi = a.0; undef = b.0; load = c.0; chain = d.0; shuffle = e.0; construct = f.0; extract = g.0; insert = h.0; any = i.0; all = i.1; label = j.0; selection = k.0; loop_merge = l.0;
-      variable = m.0; store = n.0; branch = o.0; conditional = p.0; switch = q.0; returns = r.0; unreachable = s.0; kill = s.1;
+      phi = a.0;
+      undef = b.0;
+      load = c.0;
+      chain = d.0;
+      shuffle = e.0;
+      construct = f.0;
+      extract = g.0;
+      insert = h.0;
+      any = i.0;
+      all = i.1;
+      label = j.0;
+      selection = k.0;
+      loop_merge = l.0;
+      variable = m.0;
+      store = n.0;
+      branch = o.0;
+      conditional = p.0;
+      switch = q.0;
+      returns = r.0;
+      unreachable = s.0;
+      kill = s.1;
     }
 
 operation_is : (program : Program) (memory : Memory) (opcode type : ℕ) (words : List ℕ) (values : List Value) → Unnamed opcode → result_of program memory opcode type words values ≡ operation opcode values

@@ -1,6 +1,5 @@
 -- Scalar operations and reductions: a result of the type that the rule of their operands asks.
-use Rattle.std.proofs.Common.{◌≡◌, ℕ, ◌==◌, Bool, true, false, not, ◌&&◌, ◌||◌, if◌then◌else◌, List, [], ◌∷◌, refl, ap, sym, ◌∙◌, subst, arith, Option, None, Some}
-use Rattle.std.specs.Option.{option_map}
+use Rattle.std.proofs.Common.{◌≡◌, ℕ, ◌==◌, Bool, true, false, ◌&&◌, ◌||◌, List, [], ◌∷◌, refl, ap, sym, ◌∙◌, subst, Option, None, Some}
 use Rattle.basics.specs.Word.{are_equal}
 use Rattle.basics.proofs.Bools.{first_of_both, second_of_both}
 use Rattle.spirv_model.specs.declared.op.TheConstants as op
@@ -14,14 +13,14 @@ use Rattle.check_model.specs.declared.components.Component.TheVariants as compon
 use Rattle.check_model.specs.declared.components.Components.{Components}
 use Rattle.check_model.specs.ScalarOperands.{is_truth, are_so_many, match_in, operand_fits, both_fit, unary_fits, binary_fits, condition_fits, is_select, select_fits, scalar_operands_fit}
 use Rattle.check_model.specs.CompositeOperands.{is_truth_vector, reduction_fits}
-use Rattle.check_model.specs.Typing.{Typing, type_id, has_type, type_of, meaning_of, components_in}
-use Rattle.stage_model.specs.Value.{Value, Layout, OneTruth, OneWord, Several, repeated}
+use Rattle.check_model.specs.Typing.{type_id, has_type, type_of, meaning_of, components_in}
+use Rattle.stage_model.specs.Value.{Value, OneTruth, Several, repeated}
 use Rattle.stage_model.specs.Program.{Program}
 use Rattle.stage_model.specs.Operations.{operation}
 use Rattle.typed_model.specs.Values.{HasLayout}
 use Rattle.typed_model.specs.Results.{scalar_layout, vector_layout, layout_of_components, HasResult}
-use Rattle.typed_model.specs.Types.{AreTypes, HasTypes, typing_in, Suits, AllSuit, HasTypedResult}
-use Rattle.typed_model.proofs.Rows.{is_operation, has_own_result, IsOperation}
+use Rattle.typed_model.specs.Types.{HasTypes, typing_in, Suits, AllSuit, HasTypedResult}
+use Rattle.typed_model.proofs.Rows.{is_operation}
 use Rattle.typed_model.proofs.Scalars.{OnOne, OnTwo, on_word, on_truth, on_words, on_compared, on_truths, unary_result, binary_result, select_result, select_each_result, any_result, all_result}
 use Rattle.typed_model.proofs.TypeLayouts.{same, own_type, components_layout, components_suit, type_has_layout, typed_result}
 

@@ -4,15 +4,14 @@ use Rattle.std.specs.Prelude.{is_none}
 use Rattle.std.specs.Option.{option_map, option_and_then, option_or}
 use Rattle.basics.proofs.Bools.{first_of_both, second_of_both}
 use Rattle.spirv_model.specs.declared.op.TheConstants as op
-use Rattle.scalar_model.specs.declared.scalar_value.Scalar.{Scalar}
 use Rattle.scalar_model.specs.declared.scalar_value.Scalar.TheVariants.{Bool as TruthOf, Word as WordOf}
 use Rattle.scalar_model.specs.Scalars.{word_from_word, word_from_words, comparison, truth_from_truth, truth_from_truths, scalar_result}
-use Rattle.stage_model.specs.Value.{Value, Truth, Word, Composite, Pointer, Outside, Parts, NoParts, PartsOf, Layout, OneTruth, OneWord, Several, Layouts, NoLayouts, LayoutsOf, repeated, list_of, parts_from}
-use Rattle.stage_model.specs.Start.{of_scalar, all_scalars, scalar_value}
+use Rattle.stage_model.specs.Value.{Value, Truth, Word, Composite, Parts, Layout, OneTruth, OneWord, Several, Layouts, NoLayouts, LayoutsOf, repeated, list_of, parts_from}
+use Rattle.stage_model.specs.Start.{of_scalar, scalar_value}
 use Rattle.stage_model.specs.Operations.{composite, on_each, on_pairs, chosen, selected_components, any_true, all_true, operation}
-use Rattle.typed_model.specs.Values.{layout_in, layouts_in, HasLayout}
+use Rattle.typed_model.specs.Values.{layouts_in, HasLayout}
 use Rattle.typed_model.specs.Results.{scalar_layout, vector_layout, HasResult}
-use Rattle.typed_model.proofs.Layouts.{truth_of, word_of, several_of, composite_has, Front, front_of, no_parts, both_have, HaveLayouts, same_parts}
+use Rattle.typed_model.proofs.Layouts.{truth_of, word_of, several_of, composite_has, front_of, no_parts, both_have, HaveLayouts}
 
 pub there_is : {A : Type 0} (o : Option A) → is_some o ≡ true → (x : A) × (o ≡ Some x)
 there_is None is = cc

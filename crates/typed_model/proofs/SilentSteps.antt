@@ -1,5 +1,5 @@
 -- Instructions of the module's level that define no value.
-use Rattle.std.proofs.Common.{◌≡◌, ℕ, ◌+◌, ◌<◌, ◌==◌, ◌&&◌, ◌||◌, Bool, true, false, not, if◌then◌else◌, List, [], ◌∷◌, length, slice_index, refl, ap, sym, ◌∙◌, subst, arith, Option, None, Some}
+use Rattle.std.proofs.Common.{◌≡◌, ℕ, ◌+◌, ◌<◌, ◌==◌, ◌||◌, Bool, true, false, not, if◌then◌else◌, List, [], ◌∷◌, length, slice_index, refl, ap, sym, ◌∙◌, subst, arith, Option, None, Some}
 use Rattle.std.specs.List.{list_all}
 use Rattle.std.specs.Option.{unwrap_or}
 use Rattle.std.proofs.lemmas.Bool.Decides.{nat_tests}
@@ -11,14 +11,12 @@ use Rattle.spirv_model.specs.declared.table.TheConstants.{ROWS}
 use Rattle.spirv_model.specs.declared.table.Entry.{Entry}
 use Rattle.spirv_model.specs.declared.table.Entry.TheVariants.{Listed}
 use Rattle.spirv_model.specs.Operands.{result, entry_of, class_in, class_of}
-use Rattle.valid_model.specs.declared.meaning.Meaning.{Meaning}
 use Rattle.valid_model.specs.declared.meaning.Meaning.TheVariants.{Other}
-use Rattle.valid_model.specs.Definitions.{has_result, gives, definition, inst_at, id_twice}
+use Rattle.valid_model.specs.Definitions.{has_result, inst_at, id_twice}
 use Rattle.valid_model.specs.Knowledge.{Knowledge, means}
 use Rattle.valid_model.specs.Types.{is_type, type_of}
 use Rattle.valid_model.specs.Meanings.{is_constant, constant_known, variable_meaning, other_meaning, known_of, known_before, meaning}
 use Rattle.check_model.specs.Typing.{type_id}
-use Rattle.stage_model.specs.Value.{Value}
 use Rattle.stage_model.specs.Program.{Program, program_of}
 use Rattle.stage_model.specs.Start.{Values, constant_of, with_definition}
 use Rattle.state_model.specs.declared.parts.SpecValues.{SpecValues}
@@ -27,7 +25,7 @@ use Rattle.typed_model.proofs.EffectsRun.{instruction}
 use Rattle.typed_model.proofs.PlainRuns.{at_op}
 use Rattle.typed_model.proofs.ResultIds.{in_rows, defines, setting_result}
 use Rattle.typed_model.proofs.TypedSteps.{typed_on}
-use Rattle.typed_model.proofs.ValidTypes.{IsUntyped, untyped}
+use Rattle.typed_model.proofs.ValidTypes.{untyped}
 use Rattle.typed_model.proofs.ModuleValues.{defined_at, meaning_at, with_none}
 
 -- ---- no value

@@ -1,13 +1,12 @@
 -- Types and the layouts of their values.
-use Rattle.std.proofs.Common.{◌≡◌, ℕ, ◌==◌, Bool, true, false, ◌&&◌, if◌then◌else◌, List, [], ◌∷◌, refl, ap, sym, ◌∙◌, subst, arith, Option, None, Some}
+use Rattle.std.proofs.Common.{◌≡◌, ℕ, ◌==◌, Bool, true, false, refl, ap, sym, ◌∙◌, arith, Option, None, Some}
 use Rattle.std.proofs.lemmas.Bool.Decides.{nat_tests}
 use Rattle.std.specs.Option.{option_map}
 use Rattle.basics.proofs.Bools.{first_of_both, second_of_both}
 use Rattle.valid_model.specs.declared.meaning.Meaning.{Meaning}
-use Rattle.valid_model.specs.declared.meaning.Meaning.TheVariants.{Absent, Shape as OfShape, Constant, Variable, Value as ValueOf, Label, Other}
-use Rattle.valid_model.specs.declared.meaning.Shape.{Shape}
-use Rattle.valid_model.specs.declared.meaning.Shape.TheVariants.{Void, Bool as OneBool, Int, BoolVector, IntVector, Array, Struct, Pointer, Function}
-use Rattle.valid_model.specs.Knowledge.{is_bool, is_integer, is_data}
+use Rattle.valid_model.specs.declared.meaning.Meaning.TheVariants.{Shape as OfShape}
+use Rattle.valid_model.specs.declared.meaning.Shape.TheVariants.{Bool as OneBool, Int, BoolVector, IntVector, Pointer}
+use Rattle.valid_model.specs.Knowledge.{is_data}
 use Rattle.valid_model.specs.ModuleFacts.{is_word}
 use Rattle.check_model.specs.declared.components.Component.{Component}
 use Rattle.check_model.specs.declared.components.Component.TheVariants as component
@@ -17,12 +16,12 @@ use Rattle.check_model.specs.declared.components.Part.TheVariants as part
 use Rattle.check_model.specs.OperandTypes.{is_pointer}
 use Rattle.check_model.specs.ScalarOperands.{is_truth}
 use Rattle.check_model.specs.CompositeOperands.{is_same_component, is_scalar_of, is_of_type}
-use Rattle.check_model.specs.Typing.{Typing, type_id, has_type, type_of, meaning_of, components_in}
-use Rattle.stage_model.specs.Value.{Value, Layout, OneTruth, OneWord}
+use Rattle.check_model.specs.Typing.{type_id, has_type, type_of, meaning_of, components_in}
+use Rattle.stage_model.specs.Value.{Value, Layout}
 use Rattle.stage_model.specs.Program.{Program}
 use Rattle.typed_model.specs.Values.{HasLayout, IsData, IsOfMeaning, IsOfType}
 use Rattle.typed_model.specs.Results.{scalar_layout, vector_layout, layout_of_components, HasResult}
-use Rattle.typed_model.specs.Types.{AreTypes, HasTypes, typing_in, part_layout, Suits, HasTypedResult}
+use Rattle.typed_model.specs.Types.{HasTypes, typing_in, part_layout, Suits, HasTypedResult}
 
 pub same : (a b : ℕ) → a == b ≡ true → a ≡ b
 same a b is = grind (arith, nat_tests)

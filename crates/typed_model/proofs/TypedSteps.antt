@@ -1,13 +1,11 @@
 -- The judgement is kept: by an instruction that has no result, by one whose result suits, and along a branch.
-use Rattle.std.proofs.Common.{◌≡◌, ℕ, zero, suc, ◌+◌, ◌<◌, ◌≤◌, ◌==◌, ◌&&◌, ◌||◌, ◌⊎◌, inl, inr, Bool, true, false, not, nat_le, nat_lt, if◌then◌else◌, List, [], ◌∷◌, length, refl, ap, sym, ◌∙◌, subst, arith, Option, None, Some}
-use Rattle.std.specs.List.{list_all}
+use Rattle.std.proofs.Common.{◌≡◌, ℕ, zero, suc, ◌+◌, ◌<◌, ◌==◌, ◌&&◌, ◌||◌, ◌⊎◌, inl, inr, Bool, true, false, not, nat_le, nat_lt, if◌then◌else◌, List, [], ◌∷◌, refl, ap, sym, ◌∙◌, subst, arith, Option, None, Some}
 use Rattle.std.specs.Option.{option_map}
-use Rattle.std.specs.Prelude.{slice_get, slice_index_or}
 use Rattle.std.proofs.lemmas.Bool.{cases_lt, lt-ltb, ltb-true, le-leb, leb-true}
 use Rattle.std.proofs.lemmas.Bool.Decides.{nat_tests}
 use Rattle.basics.proofs.Bools.{first_of_both, second_of_both}
 use Rattle.spirv_model.specs.declared.module.Inst.{Inst}
-use Rattle.spirv_model.specs.Operands.{word_at, result}
+use Rattle.spirv_model.specs.Operands.{result}
 use Rattle.body_model.specs.Classes.{is_terminator}
 use Rattle.valid_model.specs.Definitions.{has_result, gives, definition, inst_at, is_earlier, twice_by, id_twice}
 use Rattle.valid_model.specs.Meanings.{meaning}
@@ -18,7 +16,7 @@ use Rattle.stage_model.specs.Program.{program_of}
 use Rattle.stage_model.specs.Start.{Values, with_value}
 use Rattle.typed_model.specs.Types.{Suits}
 use Rattle.typed_model.specs.Jumps.{keeps, Jump}
-use Rattle.typed_model.specs.Judgement.{HasValue, AreTyped}
+use Rattle.typed_model.specs.Judgement.{AreTyped}
 use Rattle.typed_model.proofs.ResultIds.{terminator_result}
 
 -- ---- what is visible

@@ -1,5 +1,5 @@
 -- The types of a module whose ids are sound.
-use Rattle.std.proofs.Common.{◌≡◌, ℕ, zero, suc, ◌+◌, ◌<◌, ◌≤◌, ◌==◌, ◌&&◌, ◌||◌, ◌⊎◌, inl, inr, Bool, true, false, not, nat_le, if◌then◌else◌, List, [], ◌∷◌, length, take, refl, ap, sym, ◌∙◌, subst, arith, Option, None, Some}
+use Rattle.std.proofs.Common.{◌≡◌, ℕ, zero, suc, ◌<◌, ◌≤◌, ◌==◌, ◌&&◌, ◌||◌, inl, inr, Bool, true, false, not, nat_le, if◌then◌else◌, List, [], ◌∷◌, length, refl, ap, sym, ◌∙◌, subst, arith, Option, None, Some}
 use Rattle.std.specs.Option.{option_map, option_or, unwrap_or}
 use Rattle.std.proofs.lemmas.Bool.{cases_lt}
 use Rattle.std.proofs.lemmas.Bool.Decides.{nat_tests}
@@ -10,21 +10,20 @@ use Rattle.spirv_model.specs.declared.op.TheConstants as op
 use Rattle.spirv_model.specs.Operands.{word_at, words_from}
 use Rattle.valid_model.specs.declared.meaning.IdFacts.{IdFacts}
 use Rattle.valid_model.specs.declared.meaning.Meaning.{Meaning}
-use Rattle.valid_model.specs.declared.meaning.Meaning.TheVariants.{Absent, Shape as OfShape, Constant, Variable, Value, Label, Other}
+use Rattle.valid_model.specs.declared.meaning.Meaning.TheVariants.{Absent, Shape as OfShape, Variable, Value, Label, Other}
 use Rattle.valid_model.specs.declared.meaning.Shape.{Shape}
-use Rattle.valid_model.specs.declared.meaning.Shape.TheVariants.{Void, Bool as Truth, Int, BoolVector, IntVector, Array, Struct, Pointer, Function}
+use Rattle.valid_model.specs.declared.meaning.Shape.TheVariants.{Void, Bool as Truth, Int, BoolVector, IntVector, Pointer}
 use Rattle.valid_model.specs.declared.type_fault.TypeFault.{TypeFault}
 use Rattle.valid_model.specs.Definitions.{gives, definition, id_twice, id_out_of_bound, inst_at}
-use Rattle.valid_model.specs.Knowledge.{Knowledge, a_type, means, meaning_in, length_in, is_data, is_data_shape, is_storage_class}
-use Rattle.valid_model.specs.Types.{is_type, integer_type, vector_shape, vector_type, array_type, struct_size, struct_type, pointer_type, function_type, type_of, is_pointer_of, breaks_types, has_later_type}
-use Rattle.valid_model.specs.Meanings.{is_constant, constant_known, variable_meaning, other_meaning, known_of, known_by, known_before, meaning}
+use Rattle.valid_model.specs.Knowledge.{Knowledge, a_type, means, meaning_in, is_storage_class}
+use Rattle.valid_model.specs.Types.{is_type, vector_shape, struct_size, type_of, is_pointer_of, breaks_types, has_later_type}
+use Rattle.valid_model.specs.Meanings.{is_constant, constant_known, known_of, known_by, known_before, meaning}
 use Rattle.valid_model.specs.FirstFault.{bad_type, bad_constant, fault_of, rule_fault, type_fault_at, first_fault, type_fault}
 use Rattle.valid_model.proofs.KnownIds.{known_stays, known_by_definition, unknown_without_definition}
 use Rattle.check_model.specs.Typing.{type_id}
-use Rattle.stage_model.specs.Value.{Layout}
-use Rattle.stage_model.specs.Program.{layout_of_shape, layouts_by, program_of}
-use Rattle.typed_model.specs.Types.{AreTypes, HasTypes}
-use Rattle.typed_model.proofs.ModuleTypes.{IsSoundShape, Fits, HaveLayout, all_fit}
+use Rattle.stage_model.specs.Program.{layouts_by, program_of}
+use Rattle.typed_model.specs.Types.{HasTypes}
+use Rattle.typed_model.proofs.ModuleTypes.{Fits, HaveLayout, all_fit}
 
 -- ---- no fault at any place
 
@@ -173,9 +172,11 @@ variable_type words sound id type class None at is = absurd (no_absent type clas
 variable_type words sound id type class (Some place) at is =
     let v = makes_variable (known_before words.insts place) (inst_at words.insts place) type class (sym (ap meaning_in (known_by_definition words.insts id place at)) ∙ is) in
     let k = keeps_rules words sound place (defined_within words.insts id place at) in
-    let p = pointer_by _ (word_at 2 (inst_at words.insts place)) (unbroken (known_before words.insts place) (inst_at words.insts place) k.types v.no_type v.is) in
-    (p.0, subst (λ t. meaning words.insts t ≡ OfShape (Pointer class p.0)) v.of
-    (stays_known words.insts place (word_at 0 (inst_at words.insts place)) (Pointer class p.0) _ refl (p.1 ∙ ap (λ (c : ℕ). OfShape (Pointer c p.0)) v.in_class)))
+    let p = pointer_by _ (word_at 2 (inst_at words.insts place)) (unbroken (known_before words.insts place) (inst_at words.insts place) k.types v.no_type v.is) in (
+      p.0,
+      subst (λ t. meaning words.insts t ≡ OfShape (Pointer class p.0)) v.of
+          (stays_known words.insts place (word_at 0 (inst_at words.insts place)) (Pointer class p.0) _ refl (p.1 ∙ ap (λ (c : ℕ). OfShape (Pointer c p.0)) v.in_class)),
+    )
 
 -- ---- all of them
 

@@ -1,29 +1,26 @@
 -- Each label that a terminator names stands in the function, and what is visible there is visible at the terminator.
-use Rattle.std.proofs.Common.{◌≡◌, ℕ, zero, suc, ◌+◌, ◌-◌, ◌<◌, ◌≤◌, ◌==◌, ◌⊎◌, inl, inr, Bool, true, false, List, [], ◌∷◌, ◌++◌, length, drop, refl, ap, sym, ◌∙◌, subst, arith, Option, None, Some}
+use Rattle.std.proofs.Common.{◌≡◌, ℕ, zero, suc, ◌+◌, ◌-◌, ◌<◌, ◌≤◌, ◌==◌, ◌⊎◌, inl, inr, Bool, true, false, List, [], ◌∷◌, ◌++◌, length, refl, ap, sym, ◌∙◌, subst, arith, Option, None, Some}
 use Rattle.std.specs.Prelude.{slice_get}
 use Rattle.std.proofs.lemmas.Bool.{cases_lt}
 use Rattle.spirv_model.specs.declared.module.Inst.{Inst}
-use Rattle.body_model.specs.declared.block_end.SwitchHead.{SwitchHead}
 use Rattle.body_model.specs.declared.block_end.BlockEnd.{BlockEnd}
 use Rattle.body_model.specs.declared.block_end.BlockEnd.TheVariants as way
 use Rattle.body_model.specs.Classes.{is_terminator}
 use Rattle.body_model.specs.Scope.{Scope}
-use Rattle.body_model.specs.Scope as scopes
-use Rattle.body_model.specs.Blocks.{begins_with}
 use Rattle.body_model.specs.Due.{IsDue}
-use Rattle.body_model.specs.Switches.{is_among, without, labels_of}
+use Rattle.body_model.specs.Switches.{is_among, without}
 use Rattle.body_model.specs.Targets.{targets, MayLeaveTo}
 use Rattle.body_model.specs.Grammar.{Sequence, ends, goes_on, selects, picks, loops, Arm, straight, through, Arms, no_arm, arm_behind}
 use Rattle.body_model.proofs.Shapes.{AreStraight, after_of}
 use Rattle.body_model.proofs.Slices.{slice_get-drop}
 use Rattle.body_model.proofs.Forward.{forward, arm_forward, arms_forward}
-use Rattle.check_model.specs.Intervals.{Interval, interval, around, inside, of_arm, of_arms}
+use Rattle.check_model.specs.Intervals.{Interval, around, inside, of_arm, of_arms}
 use Rattle.stage_model.proofs.Jumps.{same_label}
 use Rattle.stage_model.proofs.WholeBlocks.{BlockAt, block_at}
 use Rattle.stage_model.proofs.Exits.{arm_exit, switch_exit, condition_exit, body_exit, continue_exit}
 use Rattle.stage_model.proofs.CodeRuns.{due_of, one_name, other_name, due_as, stands_as, own_label, at_behind, among_arms, not_before}
-use Rattle.typed_model.specs.Jumps.{Jump, Lands}
-use Rattle.typed_model.proofs.Keeping.{LieIn, wider, lie_both, lie_around, IsOutside, Covers, covers_none, covers_front, covers_behind, covers_more, covers_around, over, beside, behind, within}
+use Rattle.typed_model.specs.Jumps.{Lands}
+use Rattle.typed_model.proofs.Keeping.{LieIn, wider, lie_both, lie_around, Covers, covers_none, covers_front, covers_behind, covers_more, covers_around, over, beside, behind, within}
 
 -- ---- where the intervals lie
 
@@ -214,9 +211,9 @@ mutual
       let first = covers_front A (B ++ R) head.after second (arm_covers insts on_true) in
       let both = covers_more (A ++ (B ++ R)) head.after second join q first (covers_behind A (B ++ R) second join (covers_front B R second join (arm_covers insts on_false))) in
       let merges : LeavesArm scope head.merge label → head.after ≤ place + 1 → Leads insts (A ++ (B ++ R)) (MayLeaveTo scope next) from to place label =
-          λ leaves before. to_merge insts (A ++ (B ++ R)) scope next head.merge head.after from join to place label lie both (due_of rest) (omega (arith, b.after, p, q)) (omega (arith, r.forward)) before leaves in
+      λ leaves before. to_merge insts (A ++ (B ++ R)) scope next head.merge head.after from join to place label lie both (due_of rest) (omega (arith, b.after, p, q)) (omega (arith, r.forward)) before leaves in
       let merge_is : label ≡ head.merge → head.after ≤ place + 1 → Leads insts (A ++ (B ++ R)) (MayLeaveTo scope next) from to place label =
-          λ is before. inl (lands insts (A ++ (B ++ R)) head.merge head.after from to place label join lie both (due_of rest) is (omega (arith, b.after, p, q)) (omega (arith, r.forward)) before) in
+      λ is before. inl (lands insts (A ++ (B ++ R)) head.merge head.after from to place label join lie both (due_of rest) is (omega (arith, b.after, p, q)) (omega (arith, r.forward)) before) in
       elim (cases_lt place head.after) [
         | inl early ↦
             let l = named_last insts scope from (way.Selects head) b place label n low early in
@@ -255,7 +252,7 @@ mutual
       let lie = two_lie head.after join to A R p (omega (arith, r.forward)) a d in
       let covers = covers_front A R head.after join (arms_cover insts arms) in
       let merges : LeavesArm scope head.merge label → head.after ≤ place + 1 → Leads insts (A ++ R) (MayLeaveTo scope next) from to place label =
-          λ leaves before. to_merge insts (A ++ R) scope next head.merge head.after from join to place label lie covers (due_of rest) (omega (arith, b.after, p)) (omega (arith, r.forward)) before leaves in
+      λ leaves before. to_merge insts (A ++ R) scope next head.merge head.after from join to place label lie covers (due_of rest) (omega (arith, b.after, p)) (omega (arith, r.forward)) before leaves in
       elim (cases_lt place head.after) [
         | inl early ↦
             let l = named_last insts scope from (way.Picks head) b place label n low early in
@@ -285,7 +282,7 @@ mutual
       let to_step = covers_more J head.after first second (omega (arith, q.forward)) to_body (covers_behind C (D ++ (E ++ R)) first second (covers_front D (E ++ R) first second (covers_around first second (inside body)))) in
       let to_end = covers_more J head.after second third (omega (arith, r.forward)) to_step (covers_behind C (D ++ (E ++ R)) second third (covers_behind D (E ++ R) second third (covers_front E R second third (covers_around second third (inside step))))) in
       let exits : label ≡ head.merge → head.after ≤ place + 1 → Leads insts J (MayLeaveTo scope next) from to place label =
-          λ is before. inl (lands insts J head.merge head.after from to place label third lie to_end (due_of rest) is (omega (arith, b.after, p.forward, q.forward, r.forward)) (omega (arith, u.forward)) before) in
+      λ is before. inl (lands insts J head.merge head.after from to place label third lie to_end (due_of rest) is (omega (arith, b.after, p.forward, q.forward, r.forward)) (omega (arith, u.forward)) before) in
       elim (cases_lt place head.after) [
         | inl early ↦
             let l = named_last insts scope from (way.Loops head) b place label n low early in

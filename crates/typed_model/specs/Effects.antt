@@ -1,10 +1,10 @@
 -- Instructions whose operands fit: what they do suits the type of their result.
-use Rattle.std.specs.Prelude.{◌≡◌, ℕ, List, slice_index, Some}
+use Rattle.std.specs.Prelude.{◌≡◌, List, slice_index, Some}
 use Rattle.spirv_model.specs.declared.module.Inst.{Inst}
 use Rattle.stage_model.specs.Value.{Value}
 use Rattle.stage_model.specs.Program.{Program}
 use Rattle.stage_model.specs.Start.{Memory}
-use Rattle.stage_model.specs.Effect.{Effect, Passes, Gives, Writes, Enters, Goes, Stops, effect_of}
+use Rattle.stage_model.specs.Effect.{Effect, Gives, effect_of}
 use Rattle.typed_model.specs.Values.{IsOfType}
 
 -- a result is of the type that the instruction names

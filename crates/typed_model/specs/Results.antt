@@ -1,5 +1,5 @@
 -- What a scalar or a vector is made of, and results of a layout.
-use Rattle.std.specs.Prelude.{◌≡◌, ℕ, ◌==◌, Bool, true, false, if◌then◌else◌, Option, None, Some}
+use Rattle.std.specs.Prelude.{◌≡◌, ℕ, ◌==◌, Bool, true, false, Option, Some}
 use Rattle.check_model.specs.declared.components.Components.{Components}
 use Rattle.check_model.specs.ScalarOperands.{is_truth}
 use Rattle.stage_model.specs.Value.{Value, Layout, OneTruth, OneWord, Several, repeated}

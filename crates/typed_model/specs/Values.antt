@@ -1,13 +1,11 @@
 -- Which values are of a type.
 use Rattle.std.specs.Prelude.{◌≡◌, ℕ, List, Option, None, Some}
-use Rattle.std.specs.Option.{option_map, option_and_then}
+use Rattle.std.specs.Option.{option_map}
 use Rattle.valid_model.specs.declared.meaning.Meaning.{Meaning}
 use Rattle.valid_model.specs.declared.meaning.Meaning.TheVariants.{Shape as OfShape, Variable}
 use Rattle.valid_model.specs.declared.meaning.Shape.TheVariants.{Pointer as PointerType}
-use Rattle.check_model.specs.Typing.{Typing, type_id}
 use Rattle.stage_model.specs.Value.{Value, Truth, Word, Composite, Pointer, Outside, Parts, NoParts, PartsOf, Layout, OneTruth, OneWord, Several, Layouts, NoLayouts, LayoutsOf, part_along}
 use Rattle.stage_model.specs.Program.{Program, held_layout}
-use Rattle.stage_model.specs.Start.{Values}
 
 -- ---- data
 
