@@ -22,3 +22,4 @@ pub mod ModuleSteps
 pub mod ModuleConstants
 pub mod SilentSteps
 pub mod ModuleTyped
+pub mod ValidModules
