@@ -23,3 +23,4 @@ pub mod ModuleConstants
 pub mod SilentSteps
 pub mod ModuleTyped
 pub mod ValidModules
+pub mod ValidFunctions

@@ -1,7 +1,7 @@
 -- A valid module is sound: what its words, its list and its ids ensure.
-use Rattle.std.proofs.Common.{◌≡◌, ℕ, zero, suc, ◌+◌, ◌<◌, ◌≤◌, ◌==◌, ◌&&◌, ◌||◌, inl, inr, Bool, true, false, not, if◌then◌else◌, List, [], ◌∷◌, length, take, drop, refl, ap, sym, ◌∙◌, subst, arith, Option, None, Some, is_some}
+use Rattle.std.proofs.Common.{◌≡◌, ℕ, zero, suc, ◌+◌, ◌<◌, ◌&&◌, inl, inr, Bool, true, false, not, if◌then◌else◌, List, [], ◌∷◌, length, drop, refl, ap, ◌∙◌, subst, arith, Option, None, Some, is_some}
 use Rattle.std.specs.Prelude.{is_none, slice_index, Result, Ok, Err}
-use Rattle.std.specs.Option.{option_map, option_or}
+use Rattle.std.specs.Option.{option_or}
 use Rattle.std.proofs.lemmas.Bool.{cases_lt}
 use Rattle.spirv_model.specs.declared.module.Inst.{Inst}
 use Rattle.spirv_model.specs.declared.module.Words.{Words}
@@ -17,7 +17,7 @@ use Rattle.check_model.specs.declared.fault.CheckFault.{CheckFault}
 use Rattle.check_model.specs.Intervals.{Interval, intervals_of}
 use Rattle.check_model.specs.Typing.{typing_of}
 use Rattle.check_model.specs.OperandTypes.{operands_fit}
-use Rattle.check_model.specs.Validity.{has_bad_operands, use_fault_of, use_fault_at, first_use_fault, use_fault, list_fault, IsValidList, IsValid}
+use Rattle.check_model.specs.Validity.{has_bad_operands, use_fault_of, use_fault_at, first_use_fault, use_fault, list_fault, IsValid}
 use Rattle.typed_model.specs.Modules.{IsSound}
 
 -- ---- the words of each instruction
