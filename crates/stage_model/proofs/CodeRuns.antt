@@ -34,21 +34,21 @@ use Rattle.stage_model.proofs.Jumps.{HasPlaces, goes_to, onward_leads, onward_at
 use Rattle.stage_model.proofs.Exits.{arm_exit, switch_exit, merge_exit, condition_exit, body_exit, continue_exit}
 
 -- where a sequence begins, its block is due
-due_of : {insts : List Inst} {scope : Scope} {wanted next : Option ℕ} {from to : ℕ} → Sequence insts scope wanted from to next → IsDue insts wanted from
+pub due_of : {insts : List Inst} {scope : Scope} {wanted next : Option ℕ} {from to : ℕ} → Sequence insts scope wanted from to next → IsDue insts wanted from
 due_of (ends last here is label_is place_is) = here
 due_of (goes_on after here is rest) = here
 due_of (selects head second join here is on_true on_false rest) = here
 due_of (picks head join here is arms rest) = here
 due_of (loops head inner first second third here is condition body step rest) = here
 
-one_name : (label other : ℕ) (labels : List ℕ) → labels ≡ other ∷ [] → is_among label labels ≡ true → label ≡ other
+pub one_name : (label other : ℕ) (labels : List ℕ) → labels ≡ other ∷ [] → is_among label labels ≡ true → label ≡ other
 one_name label other labels are among = by_test label other (other == label) refl (sym (ap (is_among label) are) ∙ among)
   where
     by_test : (label other : ℕ) (b : Bool) → b ≡ (other == label) → (b || false) ≡ true → label ≡ other
     by_test label other true is among = sym (same_label other label (sym is))
     by_test label other false is among = cc
 
-other_name : (label a b : ℕ) (labels : List ℕ) → labels ≡ a ∷ b ∷ [] → is_among label labels ≡ true → label == a ≡ false → label ≡ b
+pub other_name : (label a b : ℕ) (labels : List ℕ) → labels ≡ a ∷ b ∷ [] → is_among label labels ≡ true → label == a ≡ false → label ≡ b
 other_name label a b labels are among isnt = by_test label a b (a == label) refl (sym (ap (is_among label) are) ∙ among) isnt
   where
     flipped : (a b : ℕ) → true ≡ (a == b) → b == a ≡ false → ⊥
@@ -59,10 +59,10 @@ other_name label a b labels are among isnt = by_test label a b (a == label) refl
     by_test label a b false is among isnt = one_name label b (b ∷ []) refl among
 
 -- a label that is due somewhere, and one that stands where any may
-due_as : (insts : List Inst) (label known place : ℕ) → label ≡ known → IsDue insts (Some known) place → IsDue insts (Some label) place
+pub due_as : (insts : List Inst) (label known place : ℕ) → label ≡ known → IsDue insts (Some known) place → IsDue insts (Some label) place
 due_as insts label known place is due = subst (λ l. IsDue insts (Some l) place) (sym is) due
 
-stands_as : (insts : List Inst) (wanted : Option ℕ) (label place : ℕ) (behind : List Inst) → drop place insts ≡ behind → begins_with label behind ≡ true → IsDue insts wanted place → IsDue insts (Some label) place
+pub stands_as : (insts : List Inst) (wanted : Option ℕ) (label place : ℕ) (behind : List Inst) → drop place insts ≡ behind → begins_with label behind ≡ true → IsDue insts wanted place → IsDue insts (Some label) place
 stands_as insts wanted label place behind is begins due =
     let s = stands_at insts (only wanted) place due in
     at_stands insts (only (Some label)) place
@@ -83,10 +83,10 @@ stands_as insts wanted label place behind is begins due =
     flip a b is = grind (arith, nat_tests)
 
 -- where a sequence begins stands some label
-own_label : (insts : List Inst) (scope : Scope) (wanted : Option ℕ) (place : ℕ) (end : BlockEnd) (b : BlockAt insts scope place end) → IsDue insts wanted place → IsDue insts (Some b.label) place
+pub own_label : (insts : List Inst) (scope : Scope) (wanted : Option ℕ) (place : ℕ) (end : BlockEnd) (b : BlockAt insts scope place end) → IsDue insts wanted place → IsDue insts (Some b.label) place
 own_label insts scope wanted place end b due = stands_as insts wanted b.label place (drop place insts) refl b.begins due
 
-at_behind : (insts : List Inst) (scope : Scope) (place : ℕ) (end : BlockEnd) (b : BlockAt insts scope place end) → drop (after_of end) insts ≡ b.behind
+pub at_behind : (insts : List Inst) (scope : Scope) (place : ℕ) (end : BlockEnd) (b : BlockAt insts scope place end) → drop (after_of end) insts ≡ b.behind
 at_behind insts scope place end b =
     ap (λ (n : ℕ). drop n insts) (omega (arith, b.after, length-append b.front (b.last ∷ []))) ∙ behind_front insts (b.front ++ b.last ∷ []) b.behind place (b.here ∙ sym (append_assoc b.front (b.last ∷ []) b.behind))
 
@@ -112,7 +112,7 @@ kept_among label merge (first ∷ labels) among isnt = by_tests label merge firs
     by_tests label merge first labels false true is_m is_l among isnt rest = ap (λ (b : Bool). b || is_among label (without merge labels)) (sym is_l)
     by_tests label merge first labels false false is_m is_l among isnt rest = ap (λ (b : Bool). b || is_among label (without merge labels)) (sym is_l) ∙ rest among isnt
 
-among_arms : (insts : List Inst) (scope : Scope) (place : ℕ) (head : SwitchHead) (b : BlockAt insts scope place (way.Picks head)) (label : ℕ) → is_among label (targets b.last) ≡ true → label == head.merge ≡ false
+pub among_arms : (insts : List Inst) (scope : Scope) (place : ℕ) (head : SwitchHead) (b : BlockAt insts scope place (way.Picks head)) (label : ℕ) → is_among label (targets b.last) ≡ true → label == head.merge ≡ false
     → is_among label (labels_of insts head) ≡ true
 unfolding labels_of
 among_arms insts scope place head b label among isnt =
@@ -168,7 +168,7 @@ left_at_merge program scope merge from to past label state after up f is =
 true_false : true ≡ false → ⊥
 true_false is = cc
 
-not_before : (label own : ℕ) (before : List ℕ) → label == own ≡ false → is_among label (without own before) ≡ false → is_among label before ≡ false
+pub not_before : (label own : ℕ) (before : List ℕ) → label == own ≡ false → is_among label (without own before) ≡ false → is_among label before ≡ false
 not_before label own before isnt gone = by_case label own before (is_among label before) refl isnt gone
   where
     by_case : (label own : ℕ) (before : List ℕ) (b : Bool) → b ≡ is_among label before → label == own ≡ false → is_among label (without own before) ≡ false → b ≡ false

@@ -54,7 +54,7 @@ stopped program (To label, state) = None
 stopped program (Stopped kind, state) = Some (outcome_of program (kind, state))
 
 -- nothing leads out of the function
-nowhere : (label : ℕ) → MayLeaveTo main None label → ⊥
+pub nowhere : (label : ℕ) → MayLeaveTo main None label → ⊥
 nowhere label (inl there) = there refl
 nowhere label (inr (inl is)) = cc
 nowhere label (inr (inr is)) = cc

@@ -1,0 +1,12 @@
+pub mod Branches
+pub mod CompositeOperands
+pub mod EntryPoints
+pub mod Interfaces
+pub mod Intervals
+pub mod MemoryOperands
+pub mod OperandTypes
+pub mod ScalarOperands
+pub mod Storage
+pub mod Typing
+pub mod Validity
+pub mod Visibility

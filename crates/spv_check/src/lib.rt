@@ -1,0 +1,5 @@
+//! The checker of modules: a module is accepted exactly where it is valid (SPIR-V specification, section 2.16 "Validation
+//! Rules"), and else the first fault is answered.
+#![tactic(auto)]
+
+pub use check_model::{CheckFault, Stage};

@@ -1,0 +1,7 @@
+pub mod Effects
+pub mod Judgement
+pub mod Jumps
+pub mod Modules
+pub mod Results
+pub mod Types
+pub mod Values
