@@ -13,7 +13,7 @@ use Rattle.listing_model.specs.declared.fault.ListFault.TheVariants.{Words}
 use Rattle.listing_model.specs.Names.{name_of, op_named}
 use Rattle.listing_model.specs.Listing.{inst_text, inst_line}
 use Rattle.listing_model.specs.Spelling.{spoken_of}
-use Rattle.listing_model.specs.Assembly.{assembled, head_cause, line_inst, listed_text}
+use Rattle.listing_model.specs.Assembly.{assembled, head_gives, line_inst, listed_text}
 
 abbrev i : ℕ → List ℕ → Inst
 i op words = record { op = op; words = words }
@@ -58,7 +58,7 @@ unfolding list_of_cut entry_of kinds result digits name_of inst_text
 colour-listed = refl
 
 pub colour-assembled : assembled colour_text ≡ Ok colour_words
-unfolding assembled head_cause line_inst spoken_of entry_of kinds result digits name_of op_named inst_text
+unfolding assembled head_gives line_inst spoken_of entry_of kinds result digits name_of op_named inst_text
 colour-assembled = refl
 
 -- words that are no module
@@ -75,7 +75,7 @@ unfolding entry_of result digits name_of inst_text
 switch-line = refl
 
 pub switch-words : assembled (behind_head (codes "OpSwitch %3 %4 0 %5 4294967295 %6\n")) ≡ Ok (behind_header (459003 ∷ 3 ∷ 4 ∷ 0 ∷ 5 ∷ 4294967295 ∷ 6 ∷ []))
-unfolding assembled head_cause line_inst spoken_of entry_of kinds result digits name_of op_named inst_text
+unfolding assembled head_gives line_inst spoken_of entry_of kinds result digits name_of op_named inst_text
 switch-words = refl
 
 -- OpPhi: pairs of a value and a label
@@ -84,7 +84,7 @@ unfolding entry_of result digits name_of inst_text
 phi-line = refl
 
 pub phi-words : assembled (behind_head (codes "%7 = OpPhi %3 %11 %1 %22 %2\n")) ≡ Ok (behind_header (458997 ∷ 3 ∷ 7 ∷ 11 ∷ 1 ∷ 22 ∷ 2 ∷ []))
-unfolding assembled head_cause line_inst spoken_of entry_of kinds result digits name_of op_named inst_text
+unfolding assembled head_gives line_inst spoken_of entry_of kinds result digits name_of op_named inst_text
 phi-words = refl
 
 -- OpSpecConstantOp: the opcode is a number
@@ -93,7 +93,7 @@ unfolding entry_of result digits name_of inst_text
 spec_constant_op-line = refl
 
 pub spec_constant_op-words : assembled (behind_head (codes "%10 = OpSpecConstantOp %3 128 %6 %9\n")) ≡ Ok (behind_header (393268 ∷ 3 ∷ 10 ∷ 128 ∷ 6 ∷ 9 ∷ []))
-unfolding assembled head_cause line_inst spoken_of entry_of kinds result digits name_of op_named inst_text
+unfolding assembled head_gives line_inst spoken_of entry_of kinds result digits name_of op_named inst_text
 spec_constant_op-words = refl
 
 -- ids behind a text
@@ -102,7 +102,7 @@ unfolding entry_of result digits name_of inst_text
 interface-line = refl
 
 pub interface-words : assembled (behind_head (codes "OpEntryPoint 0 %10 x6d61696e %6 %8\n")) ≡ Ok (behind_header (458767 ∷ 0 ∷ 10 ∷ 1852399981 ∷ 0 ∷ 6 ∷ 8 ∷ []))
-unfolding assembled head_cause line_inst spoken_of entry_of kinds result digits name_of op_named inst_text
+unfolding assembled head_gives line_inst spoken_of entry_of kinds result digits name_of op_named inst_text
 interface-words = refl
 
 -- a text of no byte
@@ -111,7 +111,7 @@ unfolding entry_of result digits name_of inst_text
 text_of_empty-line = refl
 
 pub text_of_empty-words : assembled (behind_head (codes "%1 = OpExtInstImport x\n")) ≡ Ok (behind_header (196619 ∷ 1 ∷ 0 ∷ []))
-unfolding assembled head_cause line_inst spoken_of entry_of kinds result digits name_of op_named inst_text
+unfolding assembled head_gives line_inst spoken_of entry_of kinds result digits name_of op_named inst_text
 text_of_empty-words = refl
 
 -- a text of one byte
@@ -120,7 +120,7 @@ unfolding entry_of result digits name_of inst_text
 text_of_one_byte-line = refl
 
 pub text_of_one_byte-words : assembled (behind_head (codes "%1 = OpExtInstImport x01\n")) ≡ Ok (behind_header (196619 ∷ 1 ∷ 1 ∷ []))
-unfolding assembled head_cause line_inst spoken_of entry_of kinds result digits name_of op_named inst_text
+unfolding assembled head_gives line_inst spoken_of entry_of kinds result digits name_of op_named inst_text
 text_of_one_byte-words = refl
 
 -- a text of two bytes
@@ -129,7 +129,7 @@ unfolding entry_of result digits name_of inst_text
 text_of_two_bytes-line = refl
 
 pub text_of_two_bytes-words : assembled (behind_head (codes "%1 = OpExtInstImport x41ff\n")) ≡ Ok (behind_header (196619 ∷ 1 ∷ 65345 ∷ []))
-unfolding assembled head_cause line_inst spoken_of entry_of kinds result digits name_of op_named inst_text
+unfolding assembled head_gives line_inst spoken_of entry_of kinds result digits name_of op_named inst_text
 text_of_two_bytes-words = refl
 
 -- a text of three bytes, a space and a line feed among them
@@ -138,7 +138,7 @@ unfolding entry_of result digits name_of inst_text
 text_of_three_bytes-line = refl
 
 pub text_of_three_bytes-words : assembled (behind_head (codes "%1 = OpExtInstImport x200a25\n")) ≡ Ok (behind_header (196619 ∷ 1 ∷ 2427424 ∷ []))
-unfolding assembled head_cause line_inst spoken_of entry_of kinds result digits name_of op_named inst_text
+unfolding assembled head_gives line_inst spoken_of entry_of kinds result digits name_of op_named inst_text
 text_of_three_bytes-words = refl
 
 -- a text of four bytes, which a word of zeros ends
@@ -147,7 +147,7 @@ unfolding entry_of result digits name_of inst_text
 text_of_four_bytes-line = refl
 
 pub text_of_four_bytes-words : assembled (behind_head (codes "%1 = OpExtInstImport x787f80f0\n")) ≡ Ok (behind_header (262155 ∷ 1 ∷ 4034953080 ∷ 0 ∷ []))
-unfolding assembled head_cause line_inst spoken_of entry_of kinds result digits name_of op_named inst_text
+unfolding assembled head_gives line_inst spoken_of entry_of kinds result digits name_of op_named inst_text
 text_of_four_bytes-words = refl
 
 -- a text of every byte but zero
@@ -156,200 +156,200 @@ unfolding entry_of result digits name_of inst_text
 text_of_all_bytes-line = refl
 
 pub text_of_all_bytes-words : assembled (behind_head (codes "%1 = OpExtInstImport x0102030405060708090a0b0c0d0e0f101112131415161718191a1b1c1d1e1f202122232425262728292a2b2c2d2e2f303132333435363738393a3b3c3d3e3f404142434445464748494a4b4c4d4e4f505152535455565758595a5b5c5d5e5f606162636465666768696a6b6c6d6e6f707172737475767778797a7b7c7d7e7f808182838485868788898a8b8c8d8e8f909192939495969798999a9b9c9d9e9fa0a1a2a3a4a5a6a7a8a9aaabacadaeafb0b1b2b3b4b5b6b7b8b9babbbcbdbebfc0c1c2c3c4c5c6c7c8c9cacbcccdcecfd0d1d2d3d4d5d6d7d8d9dadbdcdddedfe0e1e2e3e4e5e6e7e8e9eaebecedeeeff0f1f2f3f4f5f6f7f8f9fafbfcfdfeff\n")) ≡ Ok (behind_header (4325387 ∷ 1 ∷ 67305985 ∷ 134678021 ∷ 202050057 ∷ 269422093 ∷ 336794129 ∷ 404166165 ∷ 471538201 ∷ 538910237 ∷ 606282273 ∷ 673654309 ∷ 741026345 ∷ 808398381 ∷ 875770417 ∷ 943142453 ∷ 1010514489 ∷ 1077886525 ∷ 1145258561 ∷ 1212630597 ∷ 1280002633 ∷ 1347374669 ∷ 1414746705 ∷ 1482118741 ∷ 1549490777 ∷ 1616862813 ∷ 1684234849 ∷ 1751606885 ∷ 1818978921 ∷ 1886350957 ∷ 1953722993 ∷ 2021095029 ∷ 2088467065 ∷ 2155839101 ∷ 2223211137 ∷ 2290583173 ∷ 2357955209 ∷ 2425327245 ∷ 2492699281 ∷ 2560071317 ∷ 2627443353 ∷ 2694815389 ∷ 2762187425 ∷ 2829559461 ∷ 2896931497 ∷ 2964303533 ∷ 3031675569 ∷ 3099047605 ∷ 3166419641 ∷ 3233791677 ∷ 3301163713 ∷ 3368535749 ∷ 3435907785 ∷ 3503279821 ∷ 3570651857 ∷ 3638023893 ∷ 3705395929 ∷ 3772767965 ∷ 3840140001 ∷ 3907512037 ∷ 3974884073 ∷ 4042256109 ∷ 4109628145 ∷ 4177000181 ∷ 4244372217 ∷ 16776957 ∷ []))
-unfolding assembled head_cause line_inst spoken_of entry_of kinds result digits name_of op_named inst_text
+unfolding assembled head_gives line_inst spoken_of entry_of kinds result digits name_of op_named inst_text
 text_of_all_bytes-words = refl
 
 -- no bytes at all
 pub nothing : assembled ([]) ≡ Err (fault 1 NoHead)
-unfolding assembled head_cause line_inst spoken_of entry_of kinds result digits name_of op_named inst_text
+unfolding assembled head_gives line_inst spoken_of entry_of kinds result digits name_of op_named inst_text
 nothing = refl
 
 -- a first line without a line feed
 pub head_has_no_end : assembled (codes "spvt 1 9") ≡ Err (fault 1 NoEnd)
-unfolding assembled head_cause line_inst spoken_of entry_of kinds result digits name_of op_named inst_text
+unfolding assembled head_gives line_inst spoken_of entry_of kinds result digits name_of op_named inst_text
 head_has_no_end = refl
 
 -- an id bound of 0
 pub bound_is_zero : assembled (codes "spvt 1 0\n") ≡ Err (fault 1 NoHead)
-unfolding assembled head_cause line_inst spoken_of entry_of kinds result digits name_of op_named inst_text
+unfolding assembled head_gives line_inst spoken_of entry_of kinds result digits name_of op_named inst_text
 bound_is_zero = refl
 
 -- an id bound above the limit
 pub bound_is_too_great : assembled (codes "spvt 1 65537\n") ≡ Err (fault 1 NoHead)
-unfolding assembled head_cause line_inst spoken_of entry_of kinds result digits name_of op_named inst_text
+unfolding assembled head_gives line_inst spoken_of entry_of kinds result digits name_of op_named inst_text
 bound_is_too_great = refl
 
 -- a leading zero in the id bound
 pub bound_has_a_leading_zero : assembled (codes "spvt 1 09\n") ≡ Err (fault 1 NoHead)
-unfolding assembled head_cause line_inst spoken_of entry_of kinds result digits name_of op_named inst_text
+unfolding assembled head_gives line_inst spoken_of entry_of kinds result digits name_of op_named inst_text
 bound_has_a_leading_zero = refl
 
 -- another first line
 pub another_form : assembled (codes "gplt 1\n") ≡ Err (fault 1 NoHead)
-unfolding assembled head_cause line_inst spoken_of entry_of kinds result digits name_of op_named inst_text
+unfolding assembled head_gives line_inst spoken_of entry_of kinds result digits name_of op_named inst_text
 another_form = refl
 
 -- a carriage return before the line feed
 pub carriage_return_in_head : assembled (codes "spvt 1 9\r\nOpReturn\r\n") ≡ Err (fault 1 NoHead)
-unfolding assembled head_cause line_inst spoken_of entry_of kinds result digits name_of op_named inst_text
+unfolding assembled head_gives line_inst spoken_of entry_of kinds result digits name_of op_named inst_text
 carriage_return_in_head = refl
 
 -- an operand too many
 pub return_with_operand : assembled (codes "spvt 1 9\nOpReturn 0\n") ≡ Err (fault 2 BadOperands)
-unfolding assembled head_cause line_inst spoken_of entry_of kinds result digits name_of op_named inst_text
+unfolding assembled head_gives line_inst spoken_of entry_of kinds result digits name_of op_named inst_text
 return_with_operand = refl
 
 -- OpTypeFloat
 pub float_type : assembled (codes "spvt 1 9\n%3 = OpTypeFloat 32\n") ≡ Err (fault 2 NoName)
-unfolding assembled head_cause line_inst spoken_of entry_of kinds result digits name_of op_named inst_text
+unfolding assembled head_gives line_inst spoken_of entry_of kinds result digits name_of op_named inst_text
 float_type = refl
 
 -- a skipped opcode
 pub skipped : assembled (codes "spvt 1 9\nOpNop\n") ≡ Err (fault 2 NoName)
-unfolding assembled head_cause line_inst spoken_of entry_of kinds result digits name_of op_named inst_text
+unfolding assembled head_gives line_inst spoken_of entry_of kinds result digits name_of op_named inst_text
 skipped = refl
 
 -- the front of a name
 pub name_prefix : assembled (codes "spvt 1 9\n%1 = OpTypeVoi\n") ≡ Err (fault 2 NoName)
-unfolding assembled head_cause line_inst spoken_of entry_of kinds result digits name_of op_named inst_text
+unfolding assembled head_gives line_inst spoken_of entry_of kinds result digits name_of op_named inst_text
 name_prefix = refl
 
 -- a name that goes on
 pub longer_name : assembled (codes "spvt 1 9\nOpReturnValue\n") ≡ Err (fault 2 NoName)
-unfolding assembled head_cause line_inst spoken_of entry_of kinds result digits name_of op_named inst_text
+unfolding assembled head_gives line_inst spoken_of entry_of kinds result digits name_of op_named inst_text
 longer_name = refl
 
 -- a line with nothing in it
 pub empty_line : assembled (codes "spvt 1 9\n\n") ≡ Err (fault 2 NoName)
-unfolding assembled head_cause line_inst spoken_of entry_of kinds result digits name_of op_named inst_text
+unfolding assembled head_gives line_inst spoken_of entry_of kinds result digits name_of op_named inst_text
 empty_line = refl
 
 -- a result without a name
 pub missing_name : assembled (codes "spvt 1 9\n%3 =\n") ≡ Err (fault 2 NoName)
-unfolding assembled head_cause line_inst spoken_of entry_of kinds result digits name_of op_named inst_text
+unfolding assembled head_gives line_inst spoken_of entry_of kinds result digits name_of op_named inst_text
 missing_name = refl
 
 -- the last line without a line feed
 pub no_end : assembled (codes "spvt 1 9\nOpReturn") ≡ Err (fault 2 NoEnd)
-unfolding assembled head_cause line_inst spoken_of entry_of kinds result digits name_of op_named inst_text
+unfolding assembled head_gives line_inst spoken_of entry_of kinds result digits name_of op_named inst_text
 no_end = refl
 
 -- a faulty last line without a line feed
 pub no_end_comes_first : assembled (codes "spvt 1 9\nOpBla 7") ≡ Err (fault 2 NoEnd)
-unfolding assembled head_cause line_inst spoken_of entry_of kinds result digits name_of op_named inst_text
+unfolding assembled head_gives line_inst spoken_of entry_of kinds result digits name_of op_named inst_text
 no_end_comes_first = refl
 
 -- a carriage return behind a name
 pub carriage_return : assembled (codes "spvt 1 9\nOpReturn\r\n") ≡ Err (fault 2 NoName)
-unfolding assembled head_cause line_inst spoken_of entry_of kinds result digits name_of op_named inst_text
+unfolding assembled head_gives line_inst spoken_of entry_of kinds result digits name_of op_named inst_text
 carriage_return = refl
 
 -- a tab in place of a space
 pub tab : assembled (codes "spvt 1 9\nOpStore\t%5 %6\n") ≡ Err (fault 2 NoName)
-unfolding assembled head_cause line_inst spoken_of entry_of kinds result digits name_of op_named inst_text
+unfolding assembled head_gives line_inst spoken_of entry_of kinds result digits name_of op_named inst_text
 tab = refl
 
 -- a tab between operands
 pub tab_between_operands : assembled (codes "spvt 1 9\nOpStore %5\t%6\n") ≡ Err (fault 2 BadOperands)
-unfolding assembled head_cause line_inst spoken_of entry_of kinds result digits name_of op_named inst_text
+unfolding assembled head_gives line_inst spoken_of entry_of kinds result digits name_of op_named inst_text
 tab_between_operands = refl
 
 -- two spaces
 pub two_spaces : assembled (codes "spvt 1 9\nOpStore  %5 %6\n") ≡ Err (fault 2 BadOperands)
-unfolding assembled head_cause line_inst spoken_of entry_of kinds result digits name_of op_named inst_text
+unfolding assembled head_gives line_inst spoken_of entry_of kinds result digits name_of op_named inst_text
 two_spaces = refl
 
 -- a space at the end
 pub space_at_end : assembled (codes "spvt 1 9\nOpReturn \n") ≡ Err (fault 2 BadOperands)
-unfolding assembled head_cause line_inst spoken_of entry_of kinds result digits name_of op_named inst_text
+unfolding assembled head_gives line_inst spoken_of entry_of kinds result digits name_of op_named inst_text
 space_at_end = refl
 
 -- an id without its sign
 pub id_without_sign : assembled (codes "spvt 1 9\nOpStore 5 %6\n") ≡ Err (fault 2 BadOperands)
-unfolding assembled head_cause line_inst spoken_of entry_of kinds result digits name_of op_named inst_text
+unfolding assembled head_gives line_inst spoken_of entry_of kinds result digits name_of op_named inst_text
 id_without_sign = refl
 
 -- a literal with an id's sign
 pub literal_with_sign : assembled (codes "spvt 1 9\nOpDecorate %5 %30 0\n") ≡ Err (fault 2 BadOperands)
-unfolding assembled head_cause line_inst spoken_of entry_of kinds result digits name_of op_named inst_text
+unfolding assembled head_gives line_inst spoken_of entry_of kinds result digits name_of op_named inst_text
 literal_with_sign = refl
 
 -- a sign without a number
 pub no_number : assembled (codes "spvt 1 9\n%8 = OpTypeStruct %\n") ≡ Err (fault 2 BadOperands)
-unfolding assembled head_cause line_inst spoken_of entry_of kinds result digits name_of op_named inst_text
+unfolding assembled head_gives line_inst spoken_of entry_of kinds result digits name_of op_named inst_text
 no_number = refl
 
 -- a leading zero
 pub leading_zero : assembled (codes "spvt 1 9\nOpStore %05 %6\n") ≡ Err (fault 2 BadOperands)
-unfolding assembled head_cause line_inst spoken_of entry_of kinds result digits name_of op_named inst_text
+unfolding assembled head_gives line_inst spoken_of entry_of kinds result digits name_of op_named inst_text
 leading_zero = refl
 
 -- an id of more than 32 bits
 pub id_above_words : assembled (codes "spvt 1 9\n%8 = OpTypeStruct %4294967296\n") ≡ Err (fault 2 BadOperands)
-unfolding assembled head_cause line_inst spoken_of entry_of kinds result digits name_of op_named inst_text
+unfolding assembled head_gives line_inst spoken_of entry_of kinds result digits name_of op_named inst_text
 id_above_words = refl
 
 -- a literal of more than 32 bits
 pub literal_above_words : assembled (codes "spvt 1 9\nOpMemoryModel 0 4294967297\n") ≡ Err (fault 2 BadOperands)
-unfolding assembled head_cause line_inst spoken_of entry_of kinds result digits name_of op_named inst_text
+unfolding assembled head_gives line_inst spoken_of entry_of kinds result digits name_of op_named inst_text
 literal_above_words = refl
 
 -- a result left out
 pub no_result : assembled (codes "spvt 1 9\nOpLabel\n") ≡ Err (fault 2 BadOperands)
-unfolding assembled head_cause line_inst spoken_of entry_of kinds result digits name_of op_named inst_text
+unfolding assembled head_gives line_inst spoken_of entry_of kinds result digits name_of op_named inst_text
 no_result = refl
 
 -- a result behind the name
 pub result_behind_name : assembled (codes "spvt 1 9\nOpLabel %8\n") ≡ Err (fault 2 BadOperands)
-unfolding assembled head_cause line_inst spoken_of entry_of kinds result digits name_of op_named inst_text
+unfolding assembled head_gives line_inst spoken_of entry_of kinds result digits name_of op_named inst_text
 result_behind_name = refl
 
 -- a result where there is none
 pub result_of_none : assembled (codes "spvt 1 9\n%8 = OpReturn\n") ≡ Err (fault 2 BadOperands)
-unfolding assembled head_cause line_inst spoken_of entry_of kinds result digits name_of op_named inst_text
+unfolding assembled head_gives line_inst spoken_of entry_of kinds result digits name_of op_named inst_text
 result_of_none = refl
 
 -- something else between result and name
 pub result_with_other_sign : assembled (codes "spvt 1 9\n%8 : OpLabel\n") ≡ Err (fault 2 BadOperands)
-unfolding assembled head_cause line_inst spoken_of entry_of kinds result digits name_of op_named inst_text
+unfolding assembled head_gives line_inst spoken_of entry_of kinds result digits name_of op_named inst_text
 result_with_other_sign = refl
 
 -- half a pair
 pub odd_pairs : assembled (codes "spvt 1 9\n%7 = OpPhi %3 %11\n") ≡ Err (fault 2 BadOperands)
-unfolding assembled head_cause line_inst spoken_of entry_of kinds result digits name_of op_named inst_text
+unfolding assembled head_gives line_inst spoken_of entry_of kinds result digits name_of op_named inst_text
 odd_pairs = refl
 
 -- another capability
 pub other_capability : assembled (codes "spvt 1 9\nOpCapability 2\n") ≡ Err (fault 2 BadOperands)
-unfolding assembled head_cause line_inst spoken_of entry_of kinds result digits name_of op_named inst_text
+unfolding assembled head_gives line_inst spoken_of entry_of kinds result digits name_of op_named inst_text
 other_capability = refl
 
 -- upper-case digits
 pub upper_case : assembled (codes "spvt 1 9\n%1 = OpExtInstImport x4A\n") ≡ Err (fault 2 BadOperands)
-unfolding assembled head_cause line_inst spoken_of entry_of kinds result digits name_of op_named inst_text
+unfolding assembled head_gives line_inst spoken_of entry_of kinds result digits name_of op_named inst_text
 upper_case = refl
 
 -- a byte 00 at the end of a text
 pub zero_byte : assembled (codes "spvt 1 9\n%1 = OpExtInstImport x4a00\n") ≡ Err (fault 2 BadOperands)
-unfolding assembled head_cause line_inst spoken_of entry_of kinds result digits name_of op_named inst_text
+unfolding assembled head_gives line_inst spoken_of entry_of kinds result digits name_of op_named inst_text
 zero_byte = refl
 
 -- a byte 00 inside of a text
 pub zero_byte_inside : assembled (codes "spvt 1 9\n%1 = OpExtInstImport x4a004a\n") ≡ Err (fault 2 BadOperands)
-unfolding assembled head_cause line_inst spoken_of entry_of kinds result digits name_of op_named inst_text
+unfolding assembled head_gives line_inst spoken_of entry_of kinds result digits name_of op_named inst_text
 zero_byte_inside = refl
 
 -- an odd number of digits
 pub half_a_byte : assembled (codes "spvt 1 9\n%1 = OpExtInstImport x4a4\n") ≡ Err (fault 2 BadOperands)
-unfolding assembled head_cause line_inst spoken_of entry_of kinds result digits name_of op_named inst_text
+unfolding assembled head_gives line_inst spoken_of entry_of kinds result digits name_of op_named inst_text
 half_a_byte = refl
 
 -- a text without its sign
 pub text_without_sign : assembled (codes "spvt 1 9\n%1 = OpExtInstImport 4a\n") ≡ Err (fault 2 BadOperands)
-unfolding assembled head_cause line_inst spoken_of entry_of kinds result digits name_of op_named inst_text
+unfolding assembled head_gives line_inst spoken_of entry_of kinds result digits name_of op_named inst_text
 text_without_sign = refl
 
 -- the first faulty line is answered
 pub first_line : assembled (behind_head (codes "OpReturn\nOpReturn 0\nOpNop\n")) ≡ Err (fault 3 BadOperands)
-unfolding assembled head_cause line_inst spoken_of entry_of kinds result digits name_of op_named inst_text
+unfolding assembled head_gives line_inst spoken_of entry_of kinds result digits name_of op_named inst_text
 first_line = refl

@@ -37,14 +37,19 @@ head_bound text = number_onto 0 (drop 7 text)
 abbrev pub is_head : List ℕ → Bool
 is_head text = bytes_eq text (head_text (head_bound text)) && nat_lt 0 (head_bound text) && nat_le (head_bound text) MAX_BOUND
 
--- the first cause for which the first line is faulty
-unfoldable pub head_cause : Line → Option TextCause
-head_cause line =
-    if not line.ended then Some NoEnd
-    else if not (is_head line.text) then Some NoHead
-    else None
+-- the id bound of a first line, or the first cause for which it is faulty
+unfoldable pub head_gives : Line → Result ℕ TextCause
+head_gives line =
+    if not line.ended then Err NoEnd
+    else if not (is_head line.text) then Err NoHead
+    else Ok (head_bound line.text)
 
--- the same of a line for this instruction, behind so many words
+-- the id bound of the first of these lines
+abbrev pub first_gives : List Line → Result ℕ TextCause
+first_gives [] = Err NoHead
+first_gives (head ∷ lines) = head_gives head
+
+-- the first cause for which a line behind so many words is faulty that speaks of this instruction
 abbrev pub operands_cause : ℕ → Inst → List ℕ → Option TextCause
 operands_cause before inst text =
     if not (is_text_of inst text) then Some BadOperands
@@ -75,11 +80,10 @@ assembled_from number words (line ∷ lines) =
 
 -- the words that come of these lines, all of them
 abbrev pub assembled_lines : List Line → Result (List ℕ) TextFault
-assembled_lines [] = Err (record { line = 1; cause = NoHead })
-assembled_lines (head ∷ lines) =
-    elim (head_cause head) [
-      | Some cause ↦ Err (record { line = 1; cause = cause })
-      | None ↦ assembled_from 2 (module_words [] (head_bound head.text)) lines
+assembled_lines lines =
+    elim (first_gives lines) [
+      | Err cause ↦ Err (record { line = 1; cause = cause })
+      | Ok bound ↦ assembled_from 2 (module_words [] bound) (drop 1 lines)
     ]
 
 -- the words that a listing is assembled to, or the first faulty line and its first cause
