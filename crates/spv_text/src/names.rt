@@ -1,6 +1,6 @@
 ghost use Rattle.std.specs.Prelude.{◌≡◌, ◌<◌, slice_index};
 ghost use Rattle.listing_model.specs.Names as spec;
-ghost use Rattle.spv_text.specs.Names.{row_name, seen_name};
+ghost use Rattle.spv_text.specs.Names.{name_hash, row_name, seen_name};
 
 /// The bytes of a row of `NAMES`: a name with spaces behind it, and its length.
 const ROW_BYTES: usize = 24;
@@ -103,6 +103,28 @@ static ROW_NUMBERS: [u8; 256] = [
     0, 0, 0, 0, 0, 0, 0, 0, 0, 0, 0, 0, 72, 73, 74, 75, 76, 77, 78, 79, 80, 0, 81,
 ];
 
+/// By `name_hash`, an opcode whose name has it, or 0 where none has.
+static OPS_BY_HASH: [u8; 512] = [
+    138, 0, 81, 245, 0, 0, 0, 168, 0, 0, 195, 164, 0, 0, 0, 0, 0, 0, 0, 0, 176, 0, 0, 0, 0, 0, 0,
+    0, 0, 0, 0, 0, 197, 0, 0, 0, 0, 0, 0, 0, 0, 0, 0, 0, 0, 0, 0, 0, 0, 0, 0, 0, 0, 0, 248, 0, 0,
+    0, 28, 0, 0, 0, 0, 0, 0, 0, 0, 0, 0, 246, 0, 0, 0, 44, 0, 0, 126, 0, 0, 0, 0, 0, 17, 0, 0, 130,
+    0, 0, 0, 0, 0, 0, 0, 200, 0, 0, 0, 0, 166, 19, 0, 0, 0, 0, 0, 0, 0, 0, 0, 0, 0, 0, 0, 0, 0, 0,
+    0, 0, 0, 0, 0, 249, 0, 21, 0, 0, 0, 0, 0, 61, 0, 20, 0, 0, 0, 0, 155, 0, 0, 0, 0, 0, 0, 0, 179,
+    0, 0, 0, 0, 0, 0, 0, 0, 0, 0, 0, 0, 171, 0, 0, 0, 0, 0, 79, 0, 62, 0, 139, 0, 0, 0, 0, 0, 0, 0,
+    0, 0, 0, 0, 0, 196, 0, 0, 0, 0, 0, 65, 56, 0, 0, 0, 0, 178, 0, 0, 0, 255, 0, 52, 0, 0, 0, 0, 0,
+    0, 0, 0, 0, 0, 0, 0, 0, 0, 0, 0, 137, 0, 0, 0, 0, 0, 0, 173, 32, 0, 0, 0, 0, 0, 247, 0, 0, 0,
+    0, 0, 0, 0, 0, 0, 165, 0, 0, 0, 0, 0, 0, 0, 0, 0, 0, 0, 0, 0, 0, 0, 0, 0, 0, 0, 0, 0, 0, 0, 0,
+    0, 0, 0, 0, 0, 0, 172, 0, 0, 71, 0, 0, 0, 0, 0, 0, 250, 0, 0, 0, 0, 0, 0, 0, 0, 14, 0, 0, 0, 0,
+    0, 33, 194, 0, 0, 0, 0, 0, 0, 0, 0, 0, 51, 46, 253, 0, 0, 0, 11, 0, 0, 0, 0, 0, 0, 0, 72, 170,
+    0, 175, 0, 0, 0, 0, 0, 0, 0, 0, 0, 0, 0, 0, 0, 0, 0, 0, 0, 48, 0, 41, 0, 54, 0, 0, 169, 0, 0,
+    0, 0, 0, 0, 252, 0, 0, 0, 0, 0, 0, 0, 128, 0, 16, 0, 0, 0, 0, 0, 174, 0, 0, 0, 0, 0, 0, 0, 0,
+    0, 0, 0, 0, 0, 50, 0, 0, 0, 0, 0, 0, 0, 0, 0, 0, 0, 0, 0, 124, 0, 0, 0, 0, 0, 15, 0, 0, 49,
+    251, 42, 59, 0, 0, 0, 0, 0, 0, 0, 0, 82, 0, 0, 0, 0, 80, 0, 0, 0, 0, 0, 0, 0, 0, 0, 0, 0, 198,
+    135, 30, 0, 43, 0, 0, 0, 0, 0, 0, 0, 0, 23, 0, 0, 0, 0, 167, 0, 0, 0, 0, 0, 0, 0, 0, 0, 0, 0,
+    0, 0, 0, 0, 132, 0, 0, 0, 0, 0, 0, 0, 0, 0, 0, 0, 0, 177, 0, 134, 0, 0, 0, 0, 0, 0, 0, 0, 0, 0,
+    0, 0, 1, 0, 0, 0, 0, 0, 0, 0, 0, 154, 199, 0, 0,
+];
+
 /// The name of an opcode, if it has one (SPIR-V specification, section 3.49 "Instructions").
 pub fn name_of(op: u16) -> Option<&'static [u8]>
     ensures { seen_name result ≡ spec.name_of op }
@@ -128,6 +150,30 @@ fn row_name(number: usize) -> &'static [u8]
     let (row, _) = from.split_at(from.len().min(ROW_BYTES));
     let (name, _) = row.split_at(row.len().min(byte_at(row, ROW_BYTES - 1)));
     name
+}
+
+/// The opcode with this name, if there is one.
+pub fn op_named(name: &[u8]) -> Option<u16>
+    ensures { result ≡ spec.op_named name.now }
+{
+    let op = byte_at(&OPS_BY_HASH, name_hash(name)) as u16;
+    match name_of(op) {
+        Some(own) if own == name => Some(op),
+        _ => None,
+    }
+}
+
+/// A number below 512 that tells the names apart.
+#[tactic(auto, unfolding(crate::specs::Names::name_hash))]
+fn name_hash(name: &[u8]) -> usize
+    ensures { result ≡ name_hash name.now }
+{
+    let length = name.len();
+    let hash = 67 * (length % 512)
+        + 24 * byte_at(name, 2)
+        + 68 * byte_at(name, length.saturating_sub(1))
+        + 49 * byte_at(name, length / 2);
+    hash % 512
 }
 
 fn byte_at(bytes: &[u8], place: usize) -> usize

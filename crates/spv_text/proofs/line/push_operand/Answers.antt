@@ -1,4 +1,4 @@
-use Rattle.spv_text.proofs.Fields.{string_pushed}
+use Rattle.spv_text.proofs.FieldTexts.{string_pushed}
 use Rattle.spv_text.proofs.line.push_operand.Goals as goal
 
 pub returns-in-LiteralString : goal.returns-in-LiteralString

@@ -1,5 +1,5 @@
 use Rattle.std.proofs.Common.{◌≡◌, ℕ, List, ◌++◌, sym, subst, OnOk}
-use Rattle.spv_text.proofs.Fields.{ids_mapped, literals_mapped, pairs_mapped}
+use Rattle.spv_text.proofs.FieldTexts.{ids_mapped, literals_mapped, pairs_mapped}
 use Rattle.spv_text.proofs.line.push_rest.Goals as goal
 
 pub returns-in-IdRefs : goal.returns-in-IdRefs
