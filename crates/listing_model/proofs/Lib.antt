@@ -1,3 +1,4 @@
+pub mod Assembled
 mod Names
 mod Numbers
 mod Samples

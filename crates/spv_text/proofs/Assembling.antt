@@ -1,13 +1,16 @@
 -- What a listing is assembled to, from its first line on.
-use Rattle.std.proofs.Common.{◌≡◌, ℕ, ◌+◌, ◌<◌, ◌≤◌, Bool, true, false, cond, nat_lt, MatchBool, List, [], ◌∷◌, length, drop, refl, ap, sym, ◌∙◌, arith}
-use Rattle.std.specs.Prelude.{Result, Ok, Err}
+use Rattle.std.proofs.Common.{◌≡◌, ℕ, ◌+◌, ◌<◌, ◌≤◌, Bool, true, false, cond, nat_lt, MatchBool, List, [], ◌∷◌, length, drop, refl, ap, sym, ◌∙◌, arith, Vec, Global}
+use Rattle.std.specs.Prelude.{Result, Ok, Err, IfOk}
 use Rattle.std.proofs.lemmas.Bool.Decides.{nat_tests}
 use Rattle.spirv_model.specs.Module.{module_words}
 use Rattle.listing_model.specs.declared.fault.TheConstants.{LISTING_BYTES}
 use Rattle.listing_model.specs.declared.fault.TextCause.{TextCause}
 use Rattle.listing_model.specs.declared.fault.TextCause.TheVariants.{TooLong}
 use Rattle.listing_model.specs.declared.fault.TextFault.{TextFault}
-use Rattle.listing_model.specs.Assembly.{Line, assembled, assembled_from, assembled_lines, first_gives, is_memory, lines_in, lines_of}
+use Rattle.listing_model.specs.Assembly.{Line, assembled, assembled_from, assembled_lines, first_gives, is_memory, lacks_memory, lines_in, lines_of}
+use Rattle.listing_model.specs.Meaning.{IsListing}
+use Rattle.listing_model.proofs.Assembled.{is_listing}
+use Rattle.spv_text.specs.Answers.{Gives}
 use Rattle.spv_text.specs.Parts.{parts_of}
 
 long_test : (bytes : List ℕ) → LISTING_BYTES < length bytes → nat_lt LISTING_BYTES (length bytes) ≡ true
@@ -51,3 +54,9 @@ assembled_on bytes parts left bound words short is gives after header =
     from_head bytes parts short is ∙ ap (λ (g : Result ℕ TextCause). after_head (lines_in parts) g) gives
     ∙ ap (λ (ls : List Line). assembled_from 2 (module_words [] bound) ls) after
     ∙ ap (λ (ws : List ℕ). assembled_from 2 ws (lines_in left)) (sym header)
+
+-- what was answered is a listing's words
+pub listing_answer : (bytes : List ℕ) (answer : Result (Vec ℕ Global) TextFault) → Gives {X = Vec ℕ Global} {Y = List ℕ} lacks_memory (λ words. words.items) (assembled bytes) answer
+    → IfOk answer (λ words. IsListing bytes words.items)
+listing_answer bytes (Ok words) h = is_listing bytes words.items h
+listing_answer bytes (Err fault) h = tt

@@ -3,6 +3,7 @@ ghost use Rattle.basics.specs.Answer.{IsAnswer};
 ghost use Rattle.spirv_model.specs.Module.{module_words, words_of};
 ghost use Rattle.spirv_model.specs.Operands.{kinds};
 ghost use Rattle.listing_model.specs.Listing.{head_text};
+ghost use Rattle.listing_model.specs.Meaning.{IsListing};
 ghost use Rattle.listing_model.specs.Spelling.{is_text_of};
 ghost use Rattle.listing_model.specs.Assembly as spec;
 ghost use Rattle.spv_text.specs.Answers.{Gives};
@@ -21,6 +22,14 @@ use std::alloc::{AllocError, Global};
 
 /// The words of the module that a listing is of, or the first faulty line and on it the first cause.
 pub fn assemble(alloc: Global, bytes: &[u8]) -> Result<Vec<u32>, TextFault>
+    ensures gives { Gives spec.lacks_memory (λ words. words.items) (spec.assembled bytes.now) result }
+    ensures listing { IfOk result (λ words. IsListing bytes.now words.items) }
+{
+    assembled_words(alloc, bytes)
+}
+
+/// The words that come of these bytes, or the first faulty line and on it the first cause.
+fn assembled_words(alloc: Global, bytes: &[u8]) -> Result<Vec<u32>, TextFault>
     ensures gives { Gives spec.lacks_memory (λ words. words.items) (spec.assembled bytes.now) result }
 {
     if bytes.len() > LISTING_BYTES {
