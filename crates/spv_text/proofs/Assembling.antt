@@ -1,5 +1,5 @@
 -- What a listing is assembled to, from its first line on.
-use Rattle.std.proofs.Common.{◌≡◌, ℕ, ◌+◌, ◌<◌, ◌≤◌, Bool, true, false, cond, nat_lt, MatchBool, List, [], ◌∷◌, length, drop, refl, ap, sym, ◌∙◌, arith, Vec, Global}
+use Rattle.std.proofs.Common.{◌≡◌, ℕ, ◌<◌, ◌≤◌, Bool, true, false, cond, nat_lt, MatchBool, List, [], length, drop, ap, sym, ◌∙◌, arith, Vec, Global}
 use Rattle.std.specs.Prelude.{Result, Ok, Err, IfOk}
 use Rattle.std.proofs.lemmas.Bool.Decides.{nat_tests}
 use Rattle.spirv_model.specs.Module.{module_words}

@@ -8,7 +8,7 @@ use Rattle.spirv_model.specs.declared.table.Entry.{Entry}
 use Rattle.spirv_model.specs.declared.table.Entry.TheVariants.{Listed}
 use Rattle.spirv_model.specs.Operands.{entry_of, kinds, kinds_from, kinds_in, listed_of}
 use Rattle.listing_model.specs.Listing.{after_space, fields_in}
-use Rattle.spv_text.specs.Pieces.{fields_text, others_text}
+use Rattle.spv_text.specs.Pieces.{spaced, others_text}
 
 pub listed_kinds : (inst : Inst) (class : Class) (operands : Operands) (words : List ℕ) → entry_of inst.op ≡ Some (Listed class operands) → words ≡ inst.words
     → kinds inst ≡ kinds_from (listed_of operands) operands.rest words
@@ -16,6 +16,6 @@ unfolding kinds
 listed_kinds inst class operands words h w = ap (λ (e : Option Entry). kinds_in e inst.words) h ∙ ap (kinds_from (listed_of operands) operands.rest) (sym w)
 
 pub listed_others : (inst : Inst) (class : Class) (operands : Operands) (words : List ℕ) → entry_of inst.op ≡ Some (Listed class operands) → words ≡ inst.words
-    → others_text inst ≡ fields_text (listed_of operands) operands.rest words
+    → others_text inst ≡ spaced (listed_of operands) operands.rest words
 listed_others inst class operands words h w =
-    ap (λ (e : Option Entry). flat_map after_space (fields_in e inst.words)) h ∙ ap (fields_text (listed_of operands) operands.rest) (sym w)
+    ap (λ (e : Option Entry). flat_map after_space (fields_in e inst.words)) h ∙ ap (spaced (listed_of operands) operands.rest) (sym w)

@@ -1,5 +1,5 @@
 -- The instructions of a list that was read fit their operands.
-use Rattle.std.proofs.Common.{◌≡◌, ℕ, zero, suc, ◌+◌, ◌<◌, Bool, true, false, ◌&&◌, cond, not, if◌then◌else◌, List, [], ◌∷◌, Option, None, Some, is_some, is_none, length, refl, ap, sym, ◌∙◌, arith}
+use Rattle.std.proofs.Common.{◌≡◌, ℕ, zero, suc, ◌+◌, Bool, true, false, ◌&&◌, cond, not, if◌then◌else◌, List, [], ◌∷◌, Option, None, Some, is_some, is_none, refl, ap, sym, ◌∙◌, arith}
 use Rattle.std.specs.Prelude.{Result, Ok, Err, IsSome, drop, slice_index}
 use Rattle.std.specs.List.{All, list_all}
 use Rattle.basics.proofs.Bools.{first_of_both, second_of_both}

@@ -1,5 +1,5 @@
 -- The tables of names are those of the definition.
-use Rattle.std.proofs.Common.{◌≡◌, ℕ, zero, suc, ◌+◌, ◌-◌, ◌*◌, ◌<◌, ◌≤◌, min, Bool, true, false, ◌&&◌, ◌==◌, cond, nat_lt, if◌then◌else◌, List, [], ◌∷◌, length, take, drop, get_or, slice_index, Option, None, Some, refl, subst, sym, ◌∙◌, ap, arith, rules, inl, inr}
+use Rattle.std.proofs.Common.{◌≡◌, ℕ, zero, suc, ◌+◌, ◌-◌, ◌*◌, ◌<◌, ◌≤◌, min, Bool, true, false, ◌&&◌, ◌==◌, cond, nat_lt, if◌then◌else◌, List, [], ◌∷◌, length, take, drop, slice_index, Option, None, Some, refl, subst, sym, ◌∙◌, ap, arith, rules, inl, inr}
 use Rattle.std.specs.Prelude.{bytes_eq}
 use Rattle.std.proofs.lemmas.Bool.{cases_lt}
 use Rattle.std.proofs.lemmas.Bool.Decides.{nat_tests}

@@ -1,9 +1,10 @@
-ghost use Rattle.std.specs.Prelude.{◌≡◌, ◌∷◌, ◌++◌, ◌/◌, ◌<◌, IfOk, OnOk, length};
+ghost use Rattle.std.specs.Prelude.{◌≡◌, ◌∷◌, ◌++◌, ◌<◌, IfOk, OnOk};
 ghost use Rattle.std.specs.List.{flat_map};
 ghost use Rattle.spirv_model.specs.Operands as operands_spec;
 ghost use Rattle.listing_model.specs.Assembly.{line_inst};
 ghost use Rattle.listing_model.specs.Spelling as spec;
 ghost use Rattle.spv_text.specs.Parts.{TakesFirst};
+ghost use Rattle.spv_text.specs.Pieces.{with_result_of, words_of_digits};
 
 use crate::names::op_named;
 use crate::parts::Parts;
@@ -48,7 +49,7 @@ fn name_field<'a>(first: &'a [u8], fields: &mut Parts<'a>) -> Option<&'a [u8]>
 
 /// The words with the result's id at its place.
 fn with_result(op: u16, id: u32, mut words: Vec<u32>) -> Result<Vec<u32>, AllocError>
-    ensures { IfOk result (λ all. all.items ≡ spec.with_result (spec.place_in (operands_spec.entry_of op)) id words.items) }
+    ensures { IfOk result (λ all. all.items ≡ with_result_of op id words.items) }
 {
     let place = match entry_of(op) {
         Some(Entry::Listed(_, operands)) => result_place(operands),
@@ -114,7 +115,7 @@ pub fn number(digits: &[u8]) -> u32
 
 /// Pushes the words of a text with these digits.
 fn push_string(words: &mut Vec<u32>, digits: &[u8]) -> Result<(), AllocError>
-    ensures { OnOk result (words.new.items ≡ words.old.items ++ spec.string_words (length digits.now / 8) digits.now) }
+    ensures { OnOk result (words.new.items ≡ words.old.items ++ words_of_digits digits.now) }
 {
     let mut rest = digits;
     while rest.len() >= 8 {

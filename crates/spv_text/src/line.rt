@@ -1,9 +1,8 @@
 ghost use Rattle.std.specs.Prelude.{◌≡◌, ◌++◌, ◌<◌, IsSome, OnOk};
-ghost use Rattle.std.specs.List.{flat_map};
 ghost use Rattle.std.specs.Fmt.{decimal};
 ghost use Rattle.spirv_model.specs.Operands.{kinds, listed_of, operand_words};
 ghost use Rattle.listing_model.specs.Listing as spec;
-ghost use Rattle.spv_text.specs.Pieces.{Fit, PushesBytes, PushesOperand, PushesString, fields_text, others_text};
+ghost use Rattle.spv_text.specs.Pieces.{Fit, PushesBytes, PushesOperand, PushesString, ids_text, literals_text, operands_text, others_text, pairs_text, rest_text, spaced};
 
 use crate::names::name_of;
 use itoa::Buffer;
@@ -68,7 +67,7 @@ fn push_others(text: &mut Vec<u8>, inst: &Inst) -> Result<(), AllocError>
 /// Pushes the fields of words that fit these operands.
 fn push_fields(text: &mut Vec<u8>, operands: &Operands, words: &[u32]) -> Result<(), AllocError>
     requires { Fit (listed_of operands.now) operands.now.rest words.now }
-    ensures { OnOk result (text.new.items ≡ text.old.items ++ fields_text (listed_of operands.now) operands.now.rest words.now) }
+    ensures { OnOk result (text.new.items ≡ text.old.items ++ operands_text operands.now words.now) }
 {
     let (first, second, third, fourth, fifth) = operands.listed;
     let listed = [first, second, third, fourth, fifth];
@@ -83,7 +82,7 @@ fn push_listed(
     words: &[u32],
 ) -> Result<(), AllocError>
     requires { Fit listed.now rest words.now }
-    ensures { OnOk result (text.new.items ≡ text.old.items ++ fields_text listed.now rest words.now) }
+    ensures { OnOk result (text.new.items ≡ text.old.items ++ spaced listed.now rest words.now) }
 {
     let Some((first, more)) = listed.split_first() else {
         return push_rest(text, rest, words);
@@ -179,7 +178,7 @@ fn hex_digit(value: u8) -> u8
 
 /// Pushes the fields of the words after the listed operands.
 fn push_rest(text: &mut Vec<u8>, rest: Rest, words: &[u32]) -> Result<(), AllocError>
-    ensures { OnOk result (text.new.items ≡ text.old.items ++ flat_map spec.after_space (spec.rest_fields rest words.now)) }
+    ensures { OnOk result (text.new.items ≡ text.old.items ++ rest_text rest words.now) }
 {
     match rest {
         Rest::Nothing => Ok(()),
@@ -191,7 +190,7 @@ fn push_rest(text: &mut Vec<u8>, rest: Rest, words: &[u32]) -> Result<(), AllocE
 }
 
 fn push_ids(text: &mut Vec<u8>, ids: &[u32]) -> Result<(), AllocError>
-    ensures { OnOk result (text.new.items ≡ text.old.items ++ flat_map (λ id. spec.after_space (spec.id_text id)) ids.now) }
+    ensures { OnOk result (text.new.items ≡ text.old.items ++ ids_text ids.now) }
 {
     for id in ids {
         text.push(b' ')?;
@@ -201,7 +200,7 @@ fn push_ids(text: &mut Vec<u8>, ids: &[u32]) -> Result<(), AllocError>
 }
 
 fn push_literals(text: &mut Vec<u8>, literals: &[u32]) -> Result<(), AllocError>
-    ensures { OnOk result (text.new.items ≡ text.old.items ++ flat_map (λ n. spec.after_space (decimal n)) literals.now) }
+    ensures { OnOk result (text.new.items ≡ text.old.items ++ literals_text literals.now) }
 {
     for literal in literals {
         text.push(b' ')?;
@@ -212,7 +211,7 @@ fn push_literals(text: &mut Vec<u8>, literals: &[u32]) -> Result<(), AllocError>
 
 /// Pushes literals and ids by turns.
 fn push_pairs(text: &mut Vec<u8>, words: &[u32]) -> Result<(), AllocError>
-    ensures { OnOk result (text.new.items ≡ text.old.items ++ flat_map spec.after_space (spec.literal_and_id_fields words.now)) }
+    ensures { OnOk result (text.new.items ≡ text.old.items ++ pairs_text words.now) }
 {
     let mut rest = words;
     while let Some((literal, after)) = rest.split_first() {

@@ -6,8 +6,8 @@ ghost use Rattle.listing_model.specs.Listing.{head_text};
 ghost use Rattle.listing_model.specs.Meaning.{IsListing};
 ghost use Rattle.listing_model.specs.Spelling.{is_text_of};
 ghost use Rattle.listing_model.specs.Assembly as spec;
-ghost use Rattle.spv_text.specs.Answers.{Gives};
-ghost use Rattle.spv_text.specs.Steps.{HeadGives};
+ghost use Rattle.spv_text.specs.Answers.{GivesWords};
+ghost use Rattle.spv_text.specs.Steps.{HeadGives, head_in, inst_in};
 
 use crate::fields::{line_inst, number};
 use crate::line::push_inst;
@@ -22,7 +22,7 @@ use std::alloc::{AllocError, Global};
 
 /// The words of the module that a listing is of, or the first faulty line and on it the first cause.
 pub fn assemble(alloc: Global, bytes: &[u8]) -> Result<Vec<u32>, TextFault>
-    ensures gives { Gives spec.lacks_memory (λ words. words.items) (spec.assembled bytes.now) result }
+    ensures gives { GivesWords (spec.assembled bytes.now) result }
     ensures listing { IfOk result (λ words. IsListing bytes.now words.items) }
 {
     assembled_words(alloc, bytes)
@@ -30,7 +30,7 @@ pub fn assemble(alloc: Global, bytes: &[u8]) -> Result<Vec<u32>, TextFault>
 
 /// The words that come of these bytes, or the first faulty line and on it the first cause.
 fn assembled_words(alloc: Global, bytes: &[u8]) -> Result<Vec<u32>, TextFault>
-    ensures gives { Gives spec.lacks_memory (λ words. words.items) (spec.assembled bytes.now) result }
+    ensures gives { GivesWords (spec.assembled bytes.now) result }
 {
     if bytes.len() > LISTING_BYTES {
         return Err(TextFault {
@@ -74,7 +74,7 @@ fn head_line(alloc: Global, lines: &mut Parts<'_>) -> Result<u32, TextCause>
 /// The id bound of a first line, or the first cause for which it is faulty.
 #[tactic(auto, unfolding(listing_model::specs::Assembly::head_gives))]
 fn head_gives(alloc: Global, text: &[u8], ended: bool) -> Result<u32, TextCause>
-    ensures { IsAnswer spec.is_memory (spec.head_gives (record { text = text.now; ended = ended })) result }
+    ensures { IsAnswer spec.is_memory (head_in text.now ended) result }
 {
     if !ended {
         return Err(TextCause::NoEnd);
@@ -117,7 +117,7 @@ fn assemble_lines(
 ) -> Result<Vec<u32>, TextFault>
     requires few { length words.items ≤ MODULE_WORDS }
     requires lines { length lines.old ≤ LISTING_BYTES + 1 }
-    ensures { Gives spec.lacks_memory (λ words. words.items) (spec.assembled_from 2 words.items (spec.lines_in lines.old)) result }
+    ensures { GivesWords (spec.assembled_from 2 words.items (spec.lines_in lines.old)) result }
 {
     let mut words = words;
     let mut line = 1;
@@ -152,7 +152,7 @@ fn push_words(words: &mut Vec<u32>, inst: &Inst) -> Result<(), AllocError>
 /// The instruction of a line behind so many words, or the first cause for which the line is faulty.
 fn line_gives(alloc: Global, before: usize, text: &[u8], ended: bool) -> Result<Inst, TextCause>
     requires { before ≤ MODULE_WORDS }
-    ensures gives { IsAnswer spec.is_memory (spec.line_gives before (record { text = text.now; ended = ended })) result }
+    ensures gives { IsAnswer spec.is_memory (inst_in before text.now ended) result }
     ensures few { IfOk result (λ inst. before + 1 + length inst.words ≤ MODULE_WORDS) }
 {
     if !ended {

@@ -1,8 +1,8 @@
 ghost use Rattle.std.specs.Prelude.{◌≡◌, ◌++◌, IfOk, OnOk};
 ghost use Rattle.spirv_model.specs.Module.{module_of};
-ghost use Rattle.listing_model.specs.Assembly.{list_lacks_memory, listed_text};
+ghost use Rattle.listing_model.specs.Assembly.{listed_text};
 ghost use Rattle.listing_model.specs.Listing as spec;
-ghost use Rattle.spv_text.specs.Answers.{Gives};
+ghost use Rattle.spv_text.specs.Answers.{GivesText};
 ghost use Rattle.spv_text.specs.Pieces.{AllFit};
 
 use crate::line::{push_decimal, push_inst};
@@ -13,7 +13,7 @@ use std::alloc::{AllocError, Global};
 
 /// The listing of a module's words: a line with the id bound, and a line for each instruction of the list.
 pub fn list_text(alloc: Global, words: &[u32]) -> Result<Vec<u8>, ListFault>
-    ensures gives { Gives list_lacks_memory (λ text. text.items) (listed_text (module_of words.now)) result }
+    ensures gives { GivesText (listed_text (module_of words.now)) result }
 {
     let module = match read_module(alloc, words) {
         Ok(module) => module,

@@ -1,4 +1,4 @@
-use Rattle.std.proofs.Common.{◌≡◌, ℕ, ◌+◌, ◌≤◌, ◌==◌, List, length, ap, sym, subst, ◌∙◌, arith, Vec, Global}
+use Rattle.std.proofs.Common.{ℕ, ◌==◌, List, length, ap, sym, subst, arith, Vec, Global}
 use Rattle.std.specs.Prelude.{Result}
 use Rattle.listing_model.specs.declared.fault.TextFault.{TextFault}
 use Rattle.listing_model.specs.Assembly.{lacks_memory}

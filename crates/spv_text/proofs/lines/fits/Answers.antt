@@ -1,4 +1,4 @@
-use Rattle.std.proofs.Common.{◌≡◌, Option, Some, is_some, ap, sym, ◌∙◌, option_copied}
+use Rattle.std.proofs.Common.{Some, is_some, ap, sym, ◌∙◌, option_copied}
 use Rattle.spv_text.proofs.Entries.{listed_kinds}
 use Rattle.spv_text.proofs.lines.fits.Goals as goal
 

@@ -1,4 +1,4 @@
-use Rattle.std.proofs.Common.{ℕ, List, min, length, take, drop, ap, ◌∙◌}
+use Rattle.std.proofs.Common.{ℕ, min, length, take, drop, ap, ◌∙◌}
 use Rattle.spv_text.specs.declared.names.TheConstants.{NAMES}
 use Rattle.spv_text.proofs.NameTables.{row_is}
 use Rattle.spv_text.proofs.names.row_name.Goals as goal
