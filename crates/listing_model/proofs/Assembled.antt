@@ -1,5 +1,5 @@
 -- What is assembled is a listing.
-use Rattle.std.proofs.Common.{◌≡◌, ℕ, suc, ◌+◌, ◌<◌, ◌≤◌, Bool, true, false, ◌&&◌, not, cond, nat_lt, nat_le, ◌==◌, List, [], ◌∷◌, ◌++◌, length, drop, Option, None, Some, is_some, refl, ap, subst, sym, ◌∙◌, arith, rules, append_assoc, append-nil, length-append}
+use Rattle.std.proofs.Common.{◌≡◌, ℕ, ◌+◌, ◌≤◌, Bool, true, false, ◌&&◌, not, cond, nat_lt, nat_le, ◌==◌, List, [], ◌∷◌, ◌++◌, length, Option, None, Some, is_some, refl, ap, subst, sym, ◌∙◌, arith, rules, append_assoc, append-nil, length-append}
 use Rattle.std.specs.Prelude.{Result, Ok, Err, bytes_eq}
 use Rattle.std.specs.List.{flat_map, list_all, slice_split, join_with_byte}
 use Rattle.std.proofs.lemmas.List.Splits.{join_with_byte-slice_split}
@@ -14,9 +14,9 @@ use Rattle.listing_model.specs.declared.fault.TheConstants.{LISTING_BYTES}
 use Rattle.listing_model.specs.declared.fault.TextCause.{TextCause}
 use Rattle.listing_model.specs.declared.fault.TextCause.TheVariants.{TooLong, NoEnd, NoHead, NoName, BadOperands, TooManyWords}
 use Rattle.listing_model.specs.declared.fault.TextFault.{TextFault}
-use Rattle.listing_model.specs.Listing.{head_text, inst_line, inst_text, listing}
+use Rattle.listing_model.specs.Listing.{head_text, inst_line, inst_text}
 use Rattle.listing_model.specs.Spelling.{is_text_of}
-use Rattle.listing_model.specs.Assembly.{Line, assembled, assembled_from, assembled_lines, first_gives, head_bound, head_gives, is_head, line_gives, line_inst, lines_in, lines_of, operands_cause}
+use Rattle.listing_model.specs.Assembly.{Line, assembled, assembled_from, assembled_lines, head_bound, head_gives, is_head, line_gives, line_inst, lines_in, lines_of, operands_cause}
 use Rattle.listing_model.specs.Meaning.{IsListing}
 
 abbrev fitting : Inst → Bool

@@ -1,5 +1,5 @@
 -- The names as SPIR-V's own tables have them, each beside its opcode's number; the opcodes of the list have one, and all differ.
-use Rattle.std.proofs.Common.{◌≡◌, ℕ, Bool, true, false, not, ◌&&◌, List, [], ◌∷◌, codes, map, refl}
+use Rattle.std.proofs.Common.{◌≡◌, ℕ, Bool, true, not, ◌&&◌, List, [], ◌∷◌, codes, map, refl}
 use Rattle.std.specs.Prelude.{bytes_eq}
 use Rattle.std.specs.List.{filter, list_all}
 use Rattle.spirv_model.specs.declared.table.Row.{Row}

@@ -1,5 +1,5 @@
 -- Worked listings: what the definitions give for them, by computing.
-use Rattle.std.proofs.Common.{◌≡◌, ℕ, List, [], ◌∷◌, ◌++◌, codes, refl, replicate}
+use Rattle.std.proofs.Common.{◌≡◌, ℕ, List, [], ◌∷◌, ◌++◌, codes, refl}
 use Rattle.std.specs.Prelude.{Ok, Err}
 use Rattle.std.specs.Fmt.{digits}
 use Rattle.spirv_model.specs.declared.module.Inst.{Inst}
@@ -7,7 +7,7 @@ use Rattle.spirv_model.specs.declared.module.WordsFault.TheVariants.{BadHeader, 
 use Rattle.spirv_model.specs.Module.{module_of, list_of_cut}
 use Rattle.spirv_model.specs.Operands.{entry_of, kinds, result}
 use Rattle.listing_model.specs.declared.fault.TextCause.{TextCause}
-use Rattle.listing_model.specs.declared.fault.TextCause.TheVariants.{NoEnd, NoHead, NoName, BadOperands, TooManyWords}
+use Rattle.listing_model.specs.declared.fault.TextCause.TheVariants.{NoEnd, NoHead, NoName, BadOperands}
 use Rattle.listing_model.specs.declared.fault.TextFault.{TextFault}
 use Rattle.listing_model.specs.declared.fault.ListFault.TheVariants.{Words}
 use Rattle.listing_model.specs.Names.{name_of, op_named}

@@ -1,5 +1,5 @@
 -- Which bytes are a listing of which words.
-use Rattle.std.specs.Prelude.{◌≡◌, ℕ, ◌<◌, ◌≤◌, Bool, true, List, length, is_some}
+use Rattle.std.specs.Prelude.{◌≡◌, ℕ, ◌≤◌, true, List, length, is_some}
 use Rattle.std.specs.List.{list_all}
 use Rattle.limits.specs.declared.TheConstants.{MODULE_WORDS, MAX_BOUND}
 use Rattle.spirv_model.specs.declared.module.Inst.{Inst}

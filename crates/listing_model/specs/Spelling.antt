@@ -4,8 +4,6 @@ use Rattle.std.specs.Prelude.{ℕ, zero, suc, ◌+◌, ◌*◌, ◌/◌, ◌%◌
 use Rattle.std.specs.List.{flat_map, slice_split}
 use Rattle.basics.specs.Word.{low_bits}
 use Rattle.spirv_model.specs.declared.module.Inst.{Inst}
-use Rattle.spirv_model.specs.declared.class.Class.{Class}
-use Rattle.spirv_model.specs.declared.table.Operands.{Operands}
 use Rattle.spirv_model.specs.declared.table.Entry.{Entry}
 use Rattle.spirv_model.specs.declared.table.Entry.TheVariants.{Listed}
 use Rattle.spirv_model.specs.Operands.{entry_of, kinds, listed_of, result_place}
