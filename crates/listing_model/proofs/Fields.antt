@@ -1,7 +1,7 @@
 -- The fields of an instruction's words speak of these words.
-use Rattle.std.proofs.Common.{◌≡◌, ℕ, zero, suc, ◌+◌, ◌<◌, ◌≤◌, ◌^◌, ◌%◌, Bool, true, false, ◌&&◌, not, cond, nat_lt, ◌==◌, List, [], ◌∷◌, ◌++◌, length, drop, take, map, replicate, Option, None, Some, is_some, refl, ap, subst, sym, ◌∙◌, arith, append-nil, take-append-drop}
+use Rattle.std.proofs.Common.{◌≡◌, ℕ, zero, suc, ◌<◌, ◌^◌, Bool, true, false, ◌&&◌, not, cond, ◌==◌, List, [], ◌∷◌, ◌++◌, drop, take, map, replicate, Option, None, Some, is_some, refl, ap, subst, sym, ◌∙◌, append-nil, take-append-drop}
 use Rattle.std.specs.Prelude.{IfSome, slice_index}
-use Rattle.std.specs.List.{flat_map, list_all}
+use Rattle.std.specs.List.{flat_map}
 use Rattle.std.specs.Option.{option_map}
 use Rattle.std.specs.Fmt.{decimal}
 use Rattle.std.proofs.lemmas.Grind.{flat_map-append}

@@ -1,4 +1,5 @@
 pub mod Assembled
+pub mod Converse
 mod Cuts
 mod Digits
 mod Fields

@@ -1,36 +1,24 @@
 -- A listing is assembled to the words that it is of.
-use Rattle.std.proofs.Common.{◌≡◌, ℕ, zero, suc, ◌+◌, ◌<◌, ◌≤◌, ◌^◌, Bool, true, false, ◌&&◌, not, cond, nat_lt, nat_le, ◌==◌, List, [], ◌∷◌, ◌++◌, length, drop, map, codes, Option, None, Some, is_some, refl, ap, subst, sym, ◌∙◌, arith, rules, append_assoc, append-nil, length-append}
-use Rattle.std.specs.Prelude.{IfSome, Result, Ok, Err, bytes_eq, slice_index}
+use Rattle.std.proofs.Common.{◌≡◌, ℕ, Bool, true, false, ◌&&◌, not, cond, ◌==◌, List, [], ◌∷◌, ◌++◌, Option, None, Some, is_some, refl, ap, subst, sym, ◌∙◌}
+use Rattle.std.specs.Prelude.{slice_index}
 use Rattle.std.specs.List.{flat_map, list_all}
-use Rattle.std.specs.Fmt.{decimal}
-use Rattle.std.proofs.lemmas.Bool.Decides.{nat_tests}
-use Rattle.std.proofs.lemmas.List.Folds.{list_all-append}
-use Rattle.std.proofs.lemmas.Slice.Eq.{bytes_eq-Decides}
 use borrow.Author.Tests.{eqb-true}
-use Rattle.limits.specs.declared.TheConstants.{MODULE_WORDS, MAX_BOUND}
 use Rattle.basics.proofs.Bools.{first_of_both, second_of_both}
 use Rattle.spirv_model.specs.declared.module.Inst.{Inst}
 use Rattle.spirv_model.specs.declared.class.Class.{Class}
-use Rattle.spirv_model.specs.declared.table.Operand.{Operand}
 use Rattle.spirv_model.specs.declared.table.Operands.{Operands}
 use Rattle.spirv_model.specs.declared.table.Entry.{Entry}
 use Rattle.spirv_model.specs.declared.table.Entry.TheVariants.{Skipped, Float, Listed}
 use Rattle.spirv_model.specs.declared.table.Row.{Row}
 use Rattle.spirv_model.specs.declared.table.TheConstants.{ROWS}
-use Rattle.spirv_model.specs.Module.{first_word, module_words, words_of}
-use Rattle.spirv_model.specs.Operands.{entry_in, entry_of, kinds, kinds_from, kinds_in, listed_of, result, result_in}
-use Rattle.listing_model.specs.declared.fault.TheConstants.{LISTING_BYTES}
-use Rattle.listing_model.specs.declared.fault.TextCause.{TextCause}
-use Rattle.listing_model.specs.declared.fault.TextCause.TheVariants.{NoEnd, NoHead, TooLong}
-use Rattle.listing_model.specs.declared.fault.TextFault.{TextFault}
+use Rattle.spirv_model.specs.Operands.{entry_in, entry_of, kinds, kinds_in, listed_of, result, result_in}
 use Rattle.listing_model.specs.Names.{name_in, name_of, names, op_in, op_named}
-use Rattle.listing_model.specs.Listing.{after_space, fields_from, fields_in, head_text, inst_line, inst_text, listing, name_text, result_text}
-use Rattle.listing_model.specs.Spelling.{field_words, fields_of, first_number, first_op, is_text_of, named_fields, other_words, place_in, spoken_of, with_result}
-use Rattle.listing_model.specs.Assembly.{Line, assembled, assembled_from, assembled_lines, first_gives, head_gives, line_gives, line_inst, lines_of, operands_cause}
-use Rattle.listing_model.specs.Meaning.{IsListing}
-use Rattle.listing_model.proofs.Digits.{above, both_above, decimal_above, number_of_decimal}
-use Rattle.listing_model.proofs.Texts.{are_words, below_limit, is_word}
-use Rattle.listing_model.proofs.Cuts.{Spoken, are_fields, first_line, inst_lines, line_above, line_of, line_spoken, lower}
+use Rattle.listing_model.specs.Listing.{after_space, fields_from, fields_in, inst_text, name_text, result_text}
+use Rattle.listing_model.specs.Spelling.{fields_of, first_number, first_op, named_fields, other_words, place_in, spoken_of, with_result}
+use Rattle.listing_model.specs.Assembly.{line_inst}
+use Rattle.listing_model.proofs.Digits.{above}
+use Rattle.listing_model.proofs.Texts.{are_words}
+use Rattle.listing_model.proofs.Cuts.{Spoken, line_above, line_spoken}
 use Rattle.listing_model.proofs.Fields.{Shaped, has_shape, result_of, shaped}
 
 -- ---- the tables
