@@ -1,5 +1,5 @@
 -- A listing is assembled to the words that it is of.
-use Rattle.std.proofs.Common.{◌≡◌, ℕ, ◌+◌, ◌<◌, ◌≤◌, ◌^◌, Bool, true, false, ◌&&◌, not, cond, nat_lt, nat_le, List, [], ◌∷◌, ◌++◌, length, map, codes, Option, None, Some, refl, ap, subst, sym, ◌∙◌, arith, rules, append_assoc, append-nil, length-append}
+use Rattle.std.proofs.Common.{◌≡◌, ℕ, ◌+◌, ◌*◌, ◌<◌, ◌≤◌, ◌^◌, Bool, true, false, ◌&&◌, not, cond, nat_lt, nat_le, List, [], ◌∷◌, ◌++◌, length, map, codes, Option, None, Some, refl, ap, subst, sym, ◌∙◌, arith, rules, append_assoc, append-nil, length-append}
 use Rattle.std.specs.Prelude.{Result, Ok, Err, bytes_eq}
 use Rattle.std.specs.List.{flat_map, list_all}
 use Rattle.std.specs.Fmt.{decimal}
@@ -18,7 +18,7 @@ use Rattle.listing_model.specs.Listing.{head_text, inst_line, inst_text, listing
 use Rattle.listing_model.specs.Spelling.{is_text_of}
 use Rattle.listing_model.specs.Assembly.{Line, assembled, assembled_from, assembled_lines, head_bound, head_gives, is_head, line_gives, lines_of, operands_cause}
 use Rattle.listing_model.specs.Meaning.{IsListing}
-use Rattle.listing_model.proofs.Digits.{above, both_above, decimal_above, number_of_decimal}
+use Rattle.listing_model.proofs.Digits.{above, decimal_short, both_above, decimal_above, number_of_decimal}
 use Rattle.listing_model.proofs.Texts.{are_words, is_word}
 use Rattle.listing_model.proofs.Cuts.{first_line, inst_lines, line_of, lower}
 use Rattle.listing_model.proofs.Listings.{Told, fitting, told}
@@ -118,16 +118,34 @@ within_limit n h = grind (arith, nat_tests, h)
 behind_header : (insts : List Inst) (bound : ℕ) → are_words (module_words insts bound) ≡ true → are_words (flat_map words_of insts) ≡ true
 behind_header insts bound h = second_of_both (is_word bound) (are_words (flat_map words_of insts)) h
 
-listing_assembled : (bound : ℕ) (insts : List Inst) → 1 ≤ bound → bound ≤ MAX_BOUND → list_all fitting insts ≡ true → are_words (module_words insts bound) ≡ true
-    → length (module_words insts bound) ≤ MODULE_WORDS → length (listing bound insts) ≤ LISTING_BYTES → assembled (listing bound insts) ≡ Ok (module_words insts bound)
+-- a line has at most 47 bytes for each word
+insts_short : (insts : List Inst) → list_all fitting insts ≡ true → are_words (flat_map words_of insts) ≡ true
+    → length (flat_map inst_line insts) ≤ 47 * length (flat_map words_of insts)
+insts_short [] fit h = omega arith
+insts_short (inst ∷ insts) fit h =
+    let w = words_of_inst inst (flat_map words_of insts) h in
+    let t = told inst (first_of_both (fitting inst) (list_all fitting insts) fit) w.0 in
+    omega (arith, t.short, insts_short insts (second_of_both (fitting inst) (list_all fitting insts) fit) w.1,
+    length-append (inst_line inst) (flat_map inst_line insts), length-append (inst_text inst) (10 ∷ []), length-append (words_of inst) (flat_map words_of insts))
+
+listing_short : (bound : ℕ) (insts : List Inst) → bound ≤ MAX_BOUND → list_all fitting insts ≡ true → are_words (flat_map words_of insts) ≡ true
+    → length (module_words insts bound) ≤ MODULE_WORDS → length (listing bound insts) ≤ LISTING_BYTES
+listing_short bound insts most fit h few =
+    omega (arith, few, insts_short insts fit h, decimal_short bound (small_bound bound most), length-append (head_text bound) (10 ∷ flat_map inst_line insts),
+    length-append (codes "spvt 1 ") (decimal bound))
+
+-- the listing of instructions that fit, within the limits
+pub listing_assembled : (bound : ℕ) (insts : List Inst) → 1 ≤ bound → bound ≤ MAX_BOUND → list_all fitting insts ≡ true → are_words (module_words insts bound) ≡ true
+    → length (module_words insts bound) ≤ MODULE_WORDS → assembled (listing bound insts) ≡ Ok (module_words insts bound)
 unfolding assembled
-listing_assembled bound insts least most fit h few short =
+listing_assembled bound insts least most fit h few =
     let others = behind_header insts bound h in
-    ap (λ (b : Bool). cond {A = Result (List ℕ) TextFault} b (Err (record { line = 0; cause = TooLong })) (assembled_lines (lines_of (listing bound insts)))) (within_limit (length (listing bound insts)) short)
+    ap (λ (b : Bool). cond {A = Result (List ℕ) TextFault} b (Err (record { line = 0; cause = TooLong })) (assembled_lines (lines_of (listing bound insts))))
+    (within_limit (length (listing bound insts)) (listing_short bound insts most fit others few))
     ∙ ap assembled_lines (lines_are bound insts most fit others) ∙ lines_given bound insts least most fit others few
 
 -- a listing is assembled to the words that it is of
-pub listing_gives : (bytes words : List ℕ) → IsListing bytes words → are_words words ≡ true → length bytes ≤ LISTING_BYTES → assembled bytes ≡ Ok words
-listing_gives bytes words l h short =
-    let whole = listing_assembled l.bound l.insts l.bound_least l.bound_most l.fit (ap are_words (sym l.words_are) ∙ h) (omega (arith, l.few, ap length l.words_are)) (omega (arith, short, ap length l.bytes_are)) in
+pub listing_gives : (bytes words : List ℕ) → IsListing bytes words → are_words words ≡ true → assembled bytes ≡ Ok words
+listing_gives bytes words l h =
+    let whole = listing_assembled l.bound l.insts l.bound_least l.bound_most l.fit (ap are_words (sym l.words_are) ∙ h) (omega (arith, l.few, ap length l.words_are)) in
     ap assembled l.bytes_are ∙ whole ∙ ap (λ (ws : List ℕ). Ok ws) (sym l.words_are)

@@ -6,7 +6,7 @@ use Rattle.std.specs.Char.{digit_value}
 use Rattle.std.specs.Int.{IsInRange}
 use Rattle.std.specs.Str.Parse.{AllDigits, digits_value_after}
 use Rattle.std.proofs.lemmas.Bool.Decides.{nat_tests}
-use Rattle.std.proofs.lemmas.Fmt.{decimal_is_IsNumeral}
+use Rattle.std.proofs.lemmas.Fmt.{decimal_is_IsNumeral, length-decimal-le}
 use Rattle.std.proofs.lemmas.List.Folds.{list_all-append}
 use Rattle.std.proofs.lemmas.Str.{digit_value_digit}
 use Rattle.std.proofs.lemmas.Str.Parse.{digit_from_value}
@@ -45,6 +45,9 @@ digits_above (d ∷ ds) all =
 
 pub decimal_above : (n : ℕ) → n < 2 ^ 32 → above 32 (decimal n) ≡ true
 decimal_above n h = let d = decimal_is_IsNumeral n (omega (arith, h)) in digits_above (decimal n) d.0.1
+
+pub decimal_short : (n : ℕ) → n < 2 ^ 32 → length (decimal n) ≤ 10
+decimal_short n h = length-decimal-le 10 n (omega arith) (omega (arith, h)) (omega (arith, h))
 
 pub id_above : (n : ℕ) → n < 2 ^ 32 → above 32 (id_text n) ≡ true
 id_above n h = decimal_above n h

@@ -1,5 +1,5 @@
 -- The fields of an instruction's words speak of these words.
-use Rattle.std.proofs.Common.{◌≡◌, ℕ, zero, suc, ◌<◌, ◌^◌, Bool, true, false, ◌&&◌, not, cond, ◌==◌, List, [], ◌∷◌, ◌++◌, drop, take, map, replicate, Option, None, Some, is_some, refl, ap, subst, sym, ◌∙◌, append-nil, take-append-drop}
+use Rattle.std.proofs.Common.{◌≡◌, ℕ, zero, suc, ◌+◌, ◌*◌, ◌<◌, ◌≤◌, ◌^◌, Bool, true, false, ◌&&◌, not, cond, ◌==◌, List, [], ◌∷◌, ◌++◌, drop, take, map, replicate, Option, None, Some, is_some, refl, ap, subst, sym, ◌∙◌, append-nil, take-append-drop, length, length-append, arith, if◌then◌else◌}
 use Rattle.std.specs.Prelude.{IfSome, slice_index}
 use Rattle.std.specs.List.{flat_map}
 use Rattle.std.specs.Option.{option_map}
@@ -11,10 +11,10 @@ use Rattle.spirv_model.specs.declared.table.Operand.{Operand}
 use Rattle.spirv_model.specs.declared.table.Operand.TheVariants.{IdResultType, IdResult, IdRef, LiteralInteger, Fixed, LiteralString}
 use Rattle.spirv_model.specs.declared.table.Rest.{Rest}
 use Rattle.spirv_model.specs.declared.table.Rest.TheVariants.{Nothing, IdRefs, LiteralIntegers, PairsIdRefIdRef, PairsLiteralIntegerIdRef}
-use Rattle.spirv_model.specs.Operands.{kinds_from, operand_words, rest_kinds, result_place, text_words}
-use Rattle.listing_model.specs.Listing.{before_zero, bytes_of, fields_from, id_text, literal_and_id_fields, operand_fields, rest_fields, string_text, word_digits}
+use Rattle.spirv_model.specs.Operands.{kinds_from, operand_words, rest_kinds, result_place, text_end, text_words}
+use Rattle.listing_model.specs.Listing.{after_space, before_zero, byte_digits, bytes_of, fields_from, id_text, literal_and_id_fields, operand_fields, rest_fields, string_text, word_digits}
 use Rattle.listing_model.specs.Spelling.{field_words, with_result}
-use Rattle.listing_model.proofs.Digits.{above, bytes_above, both_above, decimal_above, id_above, id_words, literal_words}
+use Rattle.listing_model.proofs.Digits.{above, bytes_above, both_above, decimal_above, decimal_short, id_above, id_words, literal_words}
 use Rattle.listing_model.proofs.Texts.{are_words, below_limit, is_word, text_back}
 use Rattle.listing_model.proofs.Cuts.{are_fields}
 
@@ -22,9 +22,10 @@ use Rattle.listing_model.proofs.Cuts.{are_fields}
 pub record Speak (fields : List (List ℕ)) (words : List ℕ) : Type 0 where
   pub words_are : flat_map field_words fields ≡ words
   pub clean : are_fields fields ≡ true
+  pub short : length (flat_map after_space fields) ≤ 12 * length words
 
 none_speak : Speak [] []
-none_speak = record { words_are = refl; clean = refl }
+none_speak = record { words_are = refl; clean = refl; short = omega arith }
 
 id_speaks : (w : ℕ) (fields : List (List ℕ)) (words : List ℕ) → is_word w ≡ true → Speak fields words → Speak (id_text w ∷ fields) (w ∷ words)
 id_speaks w fields words h s =
@@ -32,6 +33,7 @@ id_speaks w fields words h s =
     record {
       words_are = ap (λ (ws : List ℕ). ws ++ flat_map field_words fields) (id_words w small) ∙ ap (λ (ws : List ℕ). w ∷ ws) s.words_are;
       clean = ap (λ (b : Bool). b && are_fields fields) (id_above w small) ∙ s.clean;
+      short = omega (arith, decimal_short w small, s.short, length-append (id_text w) (flat_map after_space fields));
     }
 
 literal_speaks : (w : ℕ) (fields : List (List ℕ)) (words : List ℕ) → is_word w ≡ true → Speak fields words → Speak (decimal w ∷ fields) (w ∷ words)
@@ -40,6 +42,7 @@ literal_speaks w fields words h s =
     record {
       words_are = ap (λ (ws : List ℕ). ws ++ flat_map field_words fields) (literal_words w small) ∙ ap (λ (ws : List ℕ). w ∷ ws) s.words_are;
       clean = ap (λ (b : Bool). b && are_fields fields) (decimal_above w small) ∙ s.clean;
+      short = omega (arith, decimal_short w small, s.short, length-append (decimal w) (flat_map after_space fields));
     }
 
 ids_speak : (words : List ℕ) → are_words words ≡ true → Speak (map id_text words) words
@@ -74,12 +77,42 @@ digits_above : (words : List ℕ) → above 32 (flat_map word_digits words) ≡ 
 digits_above [] = refl
 digits_above (w ∷ words) = both_above 32 (word_digits w) (flat_map word_digits words) (bytes_above (before_zero (bytes_of w))) (digits_above words)
 
-text_speaks : (o : Option ℕ) (words : List ℕ) → IfSome o (λ n. field_words (string_text (take n words)) ≡ take n words)
+bytes_short : (bytes : List ℕ) → length (flat_map byte_digits bytes) ≡ 2 * length bytes
+bytes_short [] = refl
+bytes_short (b ∷ bytes) = omega (arith, bytes_short bytes)
+
+by_zero : (b : Bool) (byte : ℕ) (bytes : List ℕ) (n : ℕ) → length bytes ≤ n → length (cond b [] (byte ∷ bytes)) ≤ n + 1
+by_zero true byte bytes n h = omega arith
+by_zero false byte bytes n h = omega (arith, h)
+
+before_short : (bytes : List ℕ) → length (before_zero bytes) ≤ length bytes
+before_short [] = omega arith
+before_short (b ∷ bytes) = omega (arith, by_zero (b == 0) b (before_zero bytes) (length bytes) (before_short bytes))
+
+digits_short : (words : List ℕ) → length (flat_map word_digits words) ≤ 8 * length words
+digits_short [] = omega arith
+digits_short (w ∷ words) =
+    omega (arith, length-append (word_digits w) (flat_map word_digits words), digits_short words, bytes_short (before_zero (bytes_of w)), before_short (bytes_of w))
+
+-- a text has a word
+one_word : (e : Option Bool) (o : Option ℕ) (w : ℕ) (words : List ℕ)
+    → IfSome (elim e [ None ↦ option_map (λ n. suc n) o | Some padded ↦ if padded then Some 1 else None ]) (λ n. 1 ≤ length (take n (w ∷ words)))
+one_word None None w words = tt
+one_word None (Some n) w words = omega arith
+one_word (Some true) o w words = omega arith
+one_word (Some false) o w words = tt
+
+has_word : (words : List ℕ) → IfSome (text_words words) (λ n. 1 ≤ length (take n words))
+has_word [] = tt
+has_word (w ∷ words) = one_word (text_end w) (text_words words) w words
+
+text_speaks : (o : Option ℕ) (words : List ℕ) → IfSome o (λ n. field_words (string_text (take n words)) ≡ take n words) → IfSome o (λ n. 1 ≤ length (take n words))
     → IfSome o (λ n. Speak (string_text (take n words) ∷ []) (take n words))
-text_speaks None words h = tt
-text_speaks (Some n) words h = record {
+text_speaks None words h some = tt
+text_speaks (Some n) words h some = record {
   words_are = append-nil (field_words (string_text (take n words))) ∙ h;
   clean = ap (λ (b : Bool). b && true) (digits_above (take n words));
+  short = omega (arith, some, digits_short (take n words), length-append (flat_map word_digits (take n words)) []);
 }
 
 fixed_speaks : (b : Bool) (w : ℕ) (words : List ℕ) → is_word w ≡ true → IfSome (cond b (Some 1) None) (λ n. Speak (map decimal (take n (w ∷ words))) (take n (w ∷ words)))
@@ -102,12 +135,13 @@ operand_speaks LiteralInteger [] r h = tt
 operand_speaks LiteralInteger (w ∷ words) r h = literal_speaks w [] [] (first_of_both (is_word w) (are_words words) h) none_speak
 operand_speaks (Fixed expected) [] r h = tt
 operand_speaks (Fixed expected) (w ∷ words) r h = fixed_speaks (w == expected) w words (first_of_both (is_word w) (are_words words) h)
-operand_speaks LiteralString words r h = text_speaks (text_words words) words (text_back words h)
+operand_speaks LiteralString words r h = text_speaks (text_words words) words (text_back words h) (has_word words)
 
 both_speak : (fields more : List (List ℕ)) (words others : List ℕ) → Speak fields words → Speak more others → Speak (fields ++ more) (words ++ others)
 both_speak fields more words others s m = record {
   words_are = flat_map-append field_words fields more ∙ ap (λ (ws : List ℕ). ws ++ flat_map field_words more) s.words_are ∙ ap (λ (ws : List ℕ). words ++ ws) m.words_are;
   clean = list_all-append (above 32) fields more ∙ ap (λ (b : Bool). b && are_fields more) s.clean ∙ m.clean;
+  short = omega (arith, s.short, m.short, length-append words others, ap length (flat_map-append after_space fields more), length-append (flat_map after_space fields) (flat_map after_space more));
 }
 
 mapped_some : (n : ℕ) (operand : Operand) (o : Option (List Operand)) → is_some (option_map (λ kinds. replicate n operand ++ kinds) o) ≡ true → is_some o ≡ true
@@ -166,6 +200,7 @@ pub record Shaped (listed : List (Option Operand)) (rest : Rest) (words : List �
   pub words_are : (id : ℕ) → IfSome (result_of listed words) (λ r. id ≡ r) → with_result (result_place listed) id (flat_map field_words (fields_from listed rest words)) ≡ words
   pub clean : are_fields (fields_from listed rest words) ≡ true
   pub small : IfSome (result_of listed words) (λ r. r < 2 ^ 32)
+  pub short : length (flat_map after_space (fields_from listed rest words)) ≤ 12 * length words
 
 plain_shaped : (listed : List (Option Operand)) (rest : Rest) (words : List ℕ) → result_place listed ≡ None → no_result listed ≡ true
     → is_some (kinds_from listed rest words) ≡ true → are_words words ≡ true → Shaped listed rest words
@@ -175,6 +210,7 @@ plain_shaped listed rest words p r k h =
       words_are = λ id same. ap (λ (o : Option ℕ). with_result o id (flat_map field_words (fields_from listed rest words))) p ∙ s.words_are;
       clean = s.clean;
       small = subst (λ (o : Option ℕ). IfSome (option_map (λ place. slice_index words place) o) (λ r. r < 2 ^ 32)) (sym p) tt;
+      short = s.short;
     }
 
 first_shaped : (more : List (Option Operand)) (rest : Rest) (words : List ℕ) → no_result more ≡ true
@@ -186,6 +222,7 @@ first_shaped more rest (w ∷ words) r k h =
       words_are = λ id same. ap (λ (i : ℕ). i ∷ flat_map field_words (fields_from more rest words)) same ∙ ap (λ (ws : List ℕ). w ∷ ws) s.words_are;
       clean = s.clean;
       small = below_limit w (first_of_both (is_word w) (are_words words) h);
+      short = omega (arith, s.short);
     }
 
 second_shaped : (more : List (Option Operand)) (rest : Rest) (words : List ℕ) → no_result more ≡ true
@@ -201,6 +238,7 @@ second_shaped more rest (t ∷ w ∷ words) r k h =
       words_are = λ id same. ap (with_result (Some 1) id) typed.words_are ∙ ap (λ (i : ℕ). t ∷ i ∷ words) same;
       clean = typed.clean;
       small = below_limit w (first_of_both (is_word w) (are_words words) others);
+      short = omega (arith, typed.short);
     }
 
 pub shaped : (listed : List (Option Operand)) (rest : Rest) (words : List ℕ) → has_shape listed ≡ true → is_some (kinds_from listed rest words) ≡ true

@@ -1,7 +1,8 @@
 -- A listing is assembled to the words that it is of.
-use Rattle.std.proofs.Common.{◌≡◌, ℕ, Bool, true, false, ◌&&◌, not, cond, ◌==◌, List, [], ◌∷◌, ◌++◌, Option, None, Some, is_some, refl, ap, subst, sym, ◌∙◌}
-use Rattle.std.specs.Prelude.{slice_index}
+use Rattle.std.proofs.Common.{◌≡◌, ℕ, Bool, true, false, ◌&&◌, not, cond, ◌==◌, List, [], ◌∷◌, ◌++◌, Option, None, Some, is_some, refl, ap, subst, sym, ◌∙◌, ◌≤◌, length, arith, length-append, ◌+◌, ◌*◌, codes, nat_le, ◌<◌, ◌^◌}
+use Rattle.std.specs.Prelude.{IfSome, slice_index}
 use Rattle.std.specs.List.{flat_map, list_all}
+use Rattle.std.proofs.lemmas.Bool.Decides.{nat_tests}
 use borrow.Author.Tests.{eqb-true}
 use Rattle.basics.proofs.Bools.{first_of_both, second_of_both}
 use Rattle.spirv_model.specs.declared.module.Inst.{Inst}
@@ -13,10 +14,10 @@ use Rattle.spirv_model.specs.declared.table.Row.{Row}
 use Rattle.spirv_model.specs.declared.table.TheConstants.{ROWS}
 use Rattle.spirv_model.specs.Operands.{entry_in, entry_of, kinds, kinds_in, listed_of, result, result_in}
 use Rattle.listing_model.specs.Names.{name_in, name_of, names, op_in, op_named}
-use Rattle.listing_model.specs.Listing.{after_space, fields_from, fields_in, inst_text, name_text, result_text}
+use Rattle.listing_model.specs.Listing.{id_text, after_space, fields_from, fields_in, inst_text, name_text, result_text}
 use Rattle.listing_model.specs.Spelling.{fields_of, first_number, first_op, named_fields, other_words, place_in, spoken_of, with_result}
 use Rattle.listing_model.specs.Assembly.{line_inst}
-use Rattle.listing_model.proofs.Digits.{above}
+use Rattle.listing_model.proofs.Digits.{above, decimal_short}
 use Rattle.listing_model.proofs.Texts.{are_words}
 use Rattle.listing_model.proofs.Cuts.{Spoken, line_above, line_spoken}
 use Rattle.listing_model.proofs.Fields.{Shaped, has_shape, result_of, shaped}
@@ -34,7 +35,7 @@ is-op (Some found) op h = ap (λ (n : ℕ). Some n) (eqb-true found op h)
 -- a name that leads back to its opcode, and can't be taken for an id or cut
 abbrev is_good_name : ℕ → Option (List ℕ) → Bool
 is_good_name op None = false
-is_good_name op (Some name) = is_op (op_in names name) op && above 32 name && not (slice_index name 0 == 37)
+is_good_name op (Some name) = is_op (op_in names name) op && above 32 name && not (slice_index name 0 == 37) && nat_le (length name) 32
 
 abbrev is_good_entry : ℕ → Entry → Bool
 is_good_entry op (Listed class operands) = has_shape (listed_of operands) && is_good_name op (name_in names op)
@@ -65,20 +66,26 @@ pub record Named (op : ℕ) (name : List ℕ) : Type 0 where
   pub leads_back : op_in names name ≡ Some op
   pub clean : above 32 name ≡ true
   pub letter : (slice_index name 0 == 37) ≡ false
+  pub short : length name ≤ 32
 
 not_true : (b : Bool) → not b ≡ true → b ≡ false
 not_true true h = cc
 not_true false h = refl
 
+at_most : (n : ℕ) → nat_le n 32 ≡ true → n ≤ 32
+at_most n h = grind (arith, nat_tests, h)
+
 named_by : (o : Option (List ℕ)) (op : ℕ) → name_in names op ≡ o → is_good_name op o ≡ true → (name : List ℕ) × Named op name
 named_by None op is h = cc
 named_by (Some name) op is h =
-    let first = first_of_both (is_op (op_in names name) op && above 32 name) (not (slice_index name 0 == 37)) h in
+    let front = first_of_both (is_op (op_in names name) op && above 32 name && not (slice_index name 0 == 37)) (nat_le (length name) 32) h in
+    let first = first_of_both (is_op (op_in names name) op && above 32 name) (not (slice_index name 0 == 37)) front in
     (name, record {
       is = is;
       leads_back = is-op (op_in names name) op (first_of_both (is_op (op_in names name) op) (above 32 name) first);
       clean = second_of_both (is_op (op_in names name) op) (above 32 name) first;
-      letter = not_true (slice_index name 0 == 37) (second_of_both (is_op (op_in names name) op && above 32 name) (not (slice_index name 0 == 37)) h);
+      letter = not_true (slice_index name 0 == 37) (second_of_both (is_op (op_in names name) op && above 32 name) (not (slice_index name 0 == 37)) front);
+      short = at_most (length name) (second_of_both (is_op (op_in names name) op && above 32 name && not (slice_index name 0 == 37)) (nat_le (length name) 32) h);
     })
 
 -- ---- one instruction
@@ -87,6 +94,7 @@ named_by (Some name) op is h =
 pub record Told (inst : Inst) : Type 0 where
   pub clean : above 10 (inst_text inst) ≡ true
   pub spoken : line_inst (inst_text inst) ≡ Some inst
+  pub short : length (inst_text inst) ≤ 12 * length inst.words + 46
 
 spoken_by : (inst : Inst) (operands : Operands) (class : Class) (name : List ℕ) → entry_of inst.op ≡ Some (Listed class operands) → Named inst.op name
     → Shaped (listed_of operands) operands.rest inst.words
@@ -109,6 +117,15 @@ text_is inst operands class name entry is =
     ap (λ (e : Option Entry). result_text (result_in e inst) ++ name_text (name_in names inst.op) ++ flat_map after_space (fields_in e inst.words)) entry
     ∙ ap (λ (o : Option (List ℕ)). result_text (result_of (listed_of operands) inst.words) ++ name_text o ++ flat_map after_space (fields_from (listed_of operands) operands.rest inst.words)) is
 
+result_short : (o : Option ℕ) → IfSome o (λ id. id < 2 ^ 32) → length (result_text o) ≤ 14
+result_short None small = omega arith
+result_short (Some id) small = omega (arith, decimal_short id small, length-append (id_text id) (codes " = "))
+
+text_short : (o : Option ℕ) (name : List ℕ) (others : List (List ℕ)) (n : ℕ) → IfSome o (λ id. id < 2 ^ 32) → length name ≤ 32
+    → length (flat_map after_space others) ≤ 12 * n → length (result_text o ++ name ++ flat_map after_space others) ≤ 12 * n + 46
+text_short o name others n small few short =
+    omega (arith, result_short o small, few, short, length-append (result_text o ++ name) (flat_map after_space others), length-append (result_text o) name)
+
 told_by : (inst : Inst) (operands : Operands) (class : Class) (name : List ℕ) → entry_of inst.op ≡ Some (Listed class operands) → Named inst.op name
     → Shaped (listed_of operands) operands.rest inst.words → Told inst
 told_by inst operands class name entry named shape =
@@ -117,6 +134,7 @@ told_by inst operands class name entry named shape =
     let found = result_of (listed_of operands) inst.words in
     record {
       clean = ap (above 10) t ∙ line_above found name others shape.small named.clean shape.clean;
+      short = omega (arith, ap length t, text_short found name others (length inst.words) shape.small named.short shape.short);
       spoken = spoken_by inst operands class name entry named shape
           (subst (λ (text : List ℕ). Spoken found name others (fields_of text)) (sym t) (line_spoken found name others shape.small named.clean named.letter shape.clean));
     }

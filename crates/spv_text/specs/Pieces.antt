@@ -20,8 +20,8 @@ abbrev pub spaced : List (Option Operand) → Rest → List ℕ → List ℕ
 spaced listed rest words = flat_map after_space (fields_from listed rest words)
 
 -- the fields of words that fit these operands
-abbrev pub operands_text : Operands → List ℕ → List ℕ
-operands_text operands words = spaced (listed_of operands) operands.rest words
+abbrev pub operand_text : Operands → List ℕ → List ℕ
+operand_text operands words = spaced (listed_of operands) operands.rest words
 
 -- the fields of the words after the listed operands
 abbrev pub rest_text : Rest → List ℕ → List ℕ

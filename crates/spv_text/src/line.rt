@@ -2,7 +2,7 @@ ghost use Rattle.std.specs.Prelude.{◌≡◌, ◌++◌, ◌<◌, IsSome, OnOk};
 ghost use Rattle.std.specs.Fmt.{decimal};
 ghost use Rattle.spirv_model.specs.Operands.{kinds, listed_of, operand_words};
 ghost use Rattle.listing_model.specs.Listing as spec;
-ghost use Rattle.spv_text.specs.Pieces.{Fit, PushesBytes, PushesOperand, PushesString, ids_text, literals_text, operands_text, others_text, pairs_text, rest_text, spaced};
+ghost use Rattle.spv_text.specs.Pieces.{Fit, PushesBytes, PushesOperand, PushesString, ids_text, literals_text, operand_text, others_text, pairs_text, rest_text, spaced};
 
 use crate::names::name_of;
 use itoa::Buffer;
@@ -67,7 +67,7 @@ fn push_others(text: &mut Vec<u8>, inst: &Inst) -> Result<(), AllocError>
 /// Pushes the fields of words that fit these operands.
 fn push_fields(text: &mut Vec<u8>, operands: &Operands, words: &[u32]) -> Result<(), AllocError>
     requires { Fit (listed_of operands.now) operands.now.rest words.now }
-    ensures { OnOk result (text.new.items ≡ text.old.items ++ operands_text operands.now words.now) }
+    ensures { OnOk result (text.new.items ≡ text.old.items ++ operand_text operands.now words.now) }
 {
     let (first, second, third, fourth, fifth) = operands.listed;
     let listed = [first, second, third, fourth, fifth];
