@@ -17,9 +17,8 @@ use Rattle.listing_model.specs.declared.fault.TextFault.{TextFault}
 use Rattle.listing_model.specs.Listing.{head_text, inst_line, inst_text, listing}
 use Rattle.listing_model.specs.Spelling.{is_text_of}
 use Rattle.listing_model.specs.Assembly.{Line, assembled, assembled_from, assembled_lines, head_bound, head_gives, is_head, line_gives, lines_of, operands_cause}
-use Rattle.listing_model.specs.Meaning.{IsListing}
+use Rattle.listing_model.specs.Meaning.{IsListing, are_words, is_word}
 use Rattle.listing_model.proofs.Digits.{above, decimal_short, both_above, decimal_above, number_of_decimal}
-use Rattle.listing_model.proofs.Texts.{are_words, is_word}
 use Rattle.listing_model.proofs.Cuts.{first_line, inst_lines, line_of, lower}
 use Rattle.listing_model.proofs.Listings.{Told, fitting, told}
 

@@ -14,8 +14,9 @@ use Rattle.spirv_model.specs.declared.table.Rest.TheVariants.{Nothing, IdRefs, L
 use Rattle.spirv_model.specs.Operands.{kinds_from, operand_words, rest_kinds, result_place, text_end, text_words}
 use Rattle.listing_model.specs.Listing.{after_space, before_zero, byte_digits, bytes_of, fields_from, id_text, literal_and_id_fields, operand_fields, rest_fields, string_text, word_digits}
 use Rattle.listing_model.specs.Spelling.{field_words, with_result}
+use Rattle.listing_model.specs.Meaning.{are_words, is_word}
 use Rattle.listing_model.proofs.Digits.{above, bytes_above, both_above, decimal_above, decimal_short, id_above, id_words, literal_words}
-use Rattle.listing_model.proofs.Texts.{are_words, below_limit, is_word, text_back}
+use Rattle.listing_model.proofs.Texts.{below_limit, text_back}
 use Rattle.listing_model.proofs.Cuts.{are_fields}
 
 -- these fields speak of these words, and have no space and no line feed

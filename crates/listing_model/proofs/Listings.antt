@@ -17,8 +17,8 @@ use Rattle.listing_model.specs.Names.{name_in, name_of, names, op_in, op_named}
 use Rattle.listing_model.specs.Listing.{id_text, after_space, fields_from, fields_in, inst_text, name_text, result_text}
 use Rattle.listing_model.specs.Spelling.{fields_of, first_number, first_op, named_fields, other_words, place_in, spoken_of, with_result}
 use Rattle.listing_model.specs.Assembly.{line_inst}
+use Rattle.listing_model.specs.Meaning.{are_words}
 use Rattle.listing_model.proofs.Digits.{above, decimal_short}
-use Rattle.listing_model.proofs.Texts.{are_words}
 use Rattle.listing_model.proofs.Cuts.{Spoken, line_above, line_spoken}
 use Rattle.listing_model.proofs.Fields.{Shaped, has_shape, result_of, shaped}
 

@@ -1,21 +1,15 @@
 -- The digits of a text's words give the words back.
-use Rattle.std.proofs.Common.{◌≡◌, ℕ, suc, ◌+◌, ◌*◌, ◌/◌, ◌%◌, ◌<◌, ◌^◌, Bool, true, false, cond, if◌then◌else◌, nat_lt, ◌==◌, List, [], ◌∷◌, ◌++◌, length, take, Option, None, Some, refl, ap, subst, sym, ◌∙◌, arith, append-nil}
+use Rattle.std.proofs.Common.{◌≡◌, ℕ, suc, ◌+◌, ◌*◌, ◌/◌, ◌%◌, ◌<◌, ◌^◌, Bool, true, false, cond, if◌then◌else◌, ◌==◌, List, [], ◌∷◌, ◌++◌, length, take, Option, None, Some, refl, ap, subst, sym, ◌∙◌, arith, append-nil}
 use Rattle.std.specs.Prelude.{IfSome}
-use Rattle.std.specs.List.{flat_map, list_all}
+use Rattle.std.specs.List.{flat_map}
 use Rattle.std.specs.Option.{option_map}
 use Rattle.std.proofs.lemmas.Bool.Decides.{nat_tests}
 use Rattle.basics.proofs.Bools.{first_of_both, second_of_both}
 use Rattle.spirv_model.specs.Operands.{text_end, text_words}
 use Rattle.listing_model.specs.Listing.{byte_digits, bytes_of, string_text, word_digits}
 use Rattle.listing_model.specs.Spelling.{digits_word, field_words, string_words}
+use Rattle.listing_model.specs.Meaning.{are_words, is_word}
 use Rattle.listing_model.proofs.Digits.{byte_back}
-
--- these are words of 32 bits
-abbrev pub is_word : ℕ → Bool
-is_word w = nat_lt w (2 ^ 32)
-
-abbrev pub are_words : List ℕ → Bool
-are_words words = list_all is_word words
 
 pub below_limit : (w : ℕ) → is_word w ≡ true → w < 2 ^ 32
 below_limit w h = grind (arith, nat_tests, h)

@@ -1,5 +1,5 @@
 -- Which bytes are a listing of which words.
-use Rattle.std.specs.Prelude.{◌≡◌, ℕ, ◌≤◌, true, List, length, is_some}
+use Rattle.std.specs.Prelude.{◌≡◌, ℕ, ◌≤◌, true, List, length, is_some, ◌^◌, Bool, nat_lt}
 use Rattle.std.specs.List.{list_all}
 use Rattle.limits.specs.declared.TheConstants.{MODULE_WORDS, MAX_BOUND}
 use Rattle.spirv_model.specs.declared.module.Inst.{Inst}
@@ -17,3 +17,10 @@ pub record IsListing (bytes words : List ℕ) : Type 0 where
   pub bound_most : bound ≤ MAX_BOUND
   pub few : length words ≤ MODULE_WORDS
   pub fit : list_all (λ inst. is_some (kinds inst)) insts ≡ true
+
+-- a word has 32 bits
+abbrev pub is_word : ℕ → Bool
+is_word w = nat_lt w (2 ^ 32)
+
+abbrev pub are_words : List ℕ → Bool
+are_words words = list_all is_word words

@@ -10,7 +10,8 @@ use Rattle.listing_model.specs.declared.fault.TextFault.{TextFault}
 use Rattle.listing_model.specs.Assembly.{Line, assembled, assembled_from, assembled_lines, first_gives, is_memory, lacks_memory, lines_in, lines_of}
 use Rattle.listing_model.specs.Meaning.{IsListing}
 use Rattle.listing_model.proofs.Assembled.{is_listing}
-use Rattle.spv_text.specs.Answers.{Gives}
+use Rattle.listing_model.proofs.Converse.{listing_gives}
+use Rattle.spv_text.specs.Answers.{Gives, GivesListed}
 use Rattle.spv_text.specs.Parts.{parts_of}
 
 long_test : (bytes : List ℕ) → LISTING_BYTES < length bytes → nat_lt LISTING_BYTES (length bytes) ≡ true
@@ -60,3 +61,16 @@ pub listing_answer : (bytes : List ℕ) (answer : Result (Vec ℕ Global) TextFa
     → IfOk answer (λ words. IsListing bytes words.items)
 listing_answer bytes (Ok words) h = is_listing bytes words.items h
 listing_answer bytes (Err fault) h = tt
+
+ok_same : (xs ys : List ℕ) → ◌≡◌ {A = Result (List ℕ) TextFault} (Ok xs) (Ok ys) → ys ≡ xs
+ok_same xs ys h = cc
+
+ok_err : (xs : List ℕ) (fault : TextFault) → ◌≡◌ {A = Result (List ℕ) TextFault} (Ok xs) (Err fault) → ⊥
+ok_err xs fault h = cc
+
+-- a listing's words are answered
+pub listed_answer : (bytes : List ℕ) (answer : Result (Vec ℕ Global) TextFault) → Gives {X = Vec ℕ Global} {Y = List ℕ} lacks_memory (λ words. words.items) (assembled bytes) answer
+    → GivesListed bytes answer
+listed_answer bytes (Ok words) h = λ listed l w. ok_same listed words.items (sym (listing_gives bytes listed l w) ∙ h)
+listed_answer bytes (Err fault) h = λ listed l w.
+    unless (lacks_memory fault) (assembled bytes ≡ Err fault) ⊥ (λ e. ok_err listed fault (sym (listing_gives bytes listed l w) ∙ e)) h

@@ -6,7 +6,7 @@ ghost use Rattle.listing_model.specs.Listing.{head_text};
 ghost use Rattle.listing_model.specs.Meaning.{IsListing};
 ghost use Rattle.listing_model.specs.Spelling.{is_text_of};
 ghost use Rattle.listing_model.specs.Assembly as spec;
-ghost use Rattle.spv_text.specs.Answers.{GivesWords};
+ghost use Rattle.spv_text.specs.Answers.{GivesListed, GivesWords};
 ghost use Rattle.spv_text.specs.Steps.{HeadGives, head_in, inst_in};
 
 use crate::fields::{line_inst, number};
@@ -24,6 +24,7 @@ use std::alloc::{AllocError, Global};
 pub fn assemble(alloc: Global, bytes: &[u8]) -> Result<Vec<u32>, TextFault>
     ensures gives { GivesWords (spec.assembled bytes.now) result }
     ensures listing { IfOk result (λ words. IsListing bytes.now words.items) }
+    ensures complete { GivesListed bytes.now result }
 {
     assembled_words(alloc, bytes)
 }
