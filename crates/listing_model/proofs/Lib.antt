@@ -4,6 +4,7 @@ mod Cuts
 mod Digits
 mod Fields
 mod Listings
+pub mod Modules
 mod Names
 mod Numbers
 mod Samples
