@@ -3,7 +3,7 @@ pub mod Converse
 mod Cuts
 mod Digits
 mod Fields
-mod Listings
+pub mod Listings
 pub mod Modules
 mod Names
 mod Numbers

@@ -15,7 +15,7 @@ use Rattle.spirv_model.specs.declared.table.Operand.{Operand}
 use Rattle.spirv_model.specs.declared.table.Entry.{Entry}
 use Rattle.spirv_model.specs.declared.table.Entry.TheVariants.{Skipped, Float, Listed}
 use Rattle.spirv_model.specs.Operands.{entry_of, kinds}
-use Rattle.spirv_model.specs.Module.{Rest, begin, cut, fault_at, first_fault, floats, has_header, instruction_before, is_skipped, is_version, list_of_cut, listed, lists, module_of, module_words, onto, rest_of, skips, with_bound, words_of}
+use Rattle.spirv_model.specs.Module.{Cut, Rest, begin, cut, fault_at, first_fault, floats, has_header, instruction_before, is_skipped, is_version, list_of_cut, listed, lists, module_of, module_words, onto, rest_of, skips, with_bound, words_of}
 use Rattle.listing_model.specs.Listing.{listing_of}
 use Rattle.listing_model.specs.Assembly.{assembled}
 use Rattle.listing_model.specs.Meaning.{are_words, is_word}
@@ -105,14 +105,6 @@ listed_fit place (inst ∷ insts) h =
     cons_fits (is_skipped inst) inst (listed insts) (sound_entry (entry_of inst.op) (kinds inst) inst.op place n.0)
     (listed_fit (if is_skipped inst then place else place + 1) insts n.1)
 
-answer_fits : (fault broken : Option WordsFault) (own insts : List Inst) → (fault ≡ None → list_all fitting own ≡ true)
-    → ◌≡◌ {A = Result (List Inst) WordsFault} (elim fault [ Some f ↦ Err f | None ↦ elim broken [ Some f ↦ Err f | None ↦ Ok own ] ]) (Ok insts)
-    → list_all fitting insts ≡ true
-answer_fits (Some f) broken own insts all h = cc
-answer_fits None (Some f) own insts all h = cc
-answer_fits None None own insts all h = let e : own ≡ insts = cc in ap (list_all fitting) (sym e) ∙ all refl
-
-
 -- ---- the module
 
 answer_is : (fault broken : Option WordsFault) (own insts : List Inst)
@@ -144,6 +136,18 @@ header_is : (header : Bool) (bound : ℕ) (read : Result (List Inst) WordsFault)
     → (header ≡ true) × (bound ≡ m.bound) × (read ≡ Ok m.insts)
 header_is true bound read m is = let b = bound_is bound read m is in (refl, b.0, b.1)
 header_is false bound read m is = cc
+
+list_fits : (c : Cut) (insts : List Inst) → list_of_cut 0 c ≡ Ok insts → list_all fitting insts ≡ true
+unfolding list_of_cut
+list_fits c insts h =
+    let a = answer_is (first_fault 0 c.insts) c.broken (listed c.insts) insts h in
+    ap (list_all fitting) (sym a.2) ∙ listed_fit 0 c.insts a.0
+
+-- the instructions of a module that is read fit their operands
+pub module_fits : (words : List ℕ) (m : Words) → module_of words ≡ Ok m → list_all fitting m.insts ≡ true
+module_fits words m is =
+    list_fits (cut (drop HEADER_WORDS words)) m.insts
+    (header_is (has_header words) (slice_index words 3) (list_of_cut 0 (cut (drop HEADER_WORDS words))) m is).2
 
 words_behind : (n : ℕ) (words : List ℕ) → are_words words ≡ true → are_words (drop n words) ≡ true
 words_behind zero words h = h
