@@ -124,14 +124,26 @@ insts_short [] fit h = omega arith
 insts_short (inst ∷ insts) fit h =
     let w = words_of_inst inst (flat_map words_of insts) h in
     let t = told inst (first_of_both (fitting inst) (list_all fitting insts) fit) w.0 in
-    omega (arith, t.short, insts_short insts (second_of_both (fitting inst) (list_all fitting insts) fit) w.1,
-    length-append (inst_line inst) (flat_map inst_line insts), length-append (inst_text inst) (10 ∷ []), length-append (words_of inst) (flat_map words_of insts))
+    omega (
+      arith,
+      t.short,
+      insts_short insts (second_of_both (fitting inst) (list_all fitting insts) fit) w.1,
+      length-append (inst_line inst) (flat_map inst_line insts),
+      length-append (inst_text inst) (10 ∷ []),
+      length-append (words_of inst) (flat_map words_of insts),
+    )
 
 listing_short : (bound : ℕ) (insts : List Inst) → bound ≤ MAX_BOUND → list_all fitting insts ≡ true → are_words (flat_map words_of insts) ≡ true
     → length (module_words insts bound) ≤ MODULE_WORDS → length (listing bound insts) ≤ LISTING_BYTES
 listing_short bound insts most fit h few =
-    omega (arith, few, insts_short insts fit h, decimal_short bound (small_bound bound most), length-append (head_text bound) (10 ∷ flat_map inst_line insts),
-    length-append (codes "spvt 1 ") (decimal bound))
+    omega (
+      arith,
+      few,
+      insts_short insts fit h,
+      decimal_short bound (small_bound bound most),
+      length-append (head_text bound) (10 ∷ flat_map inst_line insts),
+      length-append (codes "spvt 1 ") (decimal bound),
+    )
 
 -- the listing of instructions that fit, within the limits
 pub listing_assembled : (bound : ℕ) (insts : List Inst) → 1 ≤ bound → bound ≤ MAX_BOUND → list_all fitting insts ≡ true → are_words (module_words insts bound) ≡ true

@@ -54,10 +54,10 @@ line_spoken None name others small h letter all =
 line_spoken (Some id) name others small h letter all =
     let rest = name ++ flat_map after_space others in
     let cut : fields_of (id_text id ++ codes " = " ++ name ++ flat_map after_space others) ≡ id_text id ∷ (61 ∷ []) ∷ name ∷ others =
-        ap fields_of (append_assoc (id_text id ++ codes " = ") name (flat_map after_space others) ∙ append_assoc (id_text id) (codes " = ") rest)
-        ∙ part_then 32 32 (id_text id) (61 ∷ 32 ∷ rest) (omega arith) (id_above id small)
-        ∙ ap (λ (fs : List (List ℕ)). id_text id ∷ fs) (part_then 32 32 (61 ∷ []) rest (omega arith) refl)
-        ∙ ap (λ (fs : List (List ℕ)). id_text id ∷ (61 ∷ []) ∷ fs) (spaced_fields name others h all) in
+    ap fields_of (append_assoc (id_text id ++ codes " = ") name (flat_map after_space others) ∙ append_assoc (id_text id) (codes " = ") rest)
+    ∙ part_then 32 32 (id_text id) (61 ∷ 32 ∷ rest) (omega arith) (id_above id small)
+    ∙ ap (λ (fs : List (List ℕ)). id_text id ∷ fs) (part_then 32 32 (61 ∷ []) rest (omega arith) refl)
+    ∙ ap (λ (fs : List (List ℕ)). id_text id ∷ (61 ∷ []) ∷ fs) (spaced_fields name others h all) in
     subst (Spoken (Some id) name others) (sym cut) (record { named = refl; number = number_of_decimal id small })
 
 -- ---- lines

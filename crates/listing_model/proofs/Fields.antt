@@ -233,7 +233,7 @@ second_shaped more rest (t ∷ []) r k h = cc
 second_shaped more rest (t ∷ w ∷ words) r k h =
     let others = second_of_both (is_word t) (is_word w && are_words words) h in
     let s = plain_speak more rest words r (mapped_some 1 IdResult (kinds_from more rest words) (mapped_some 1 IdResultType (kinds_from (Some IdResult ∷ more) rest (w ∷ words)) k))
-        (second_of_both (is_word w) (are_words words) others) in
+    (second_of_both (is_word w) (are_words words) others) in
     let typed = id_speaks t (fields_from more rest words) words (first_of_both (is_word t) (is_word w && are_words words) h) s in
     record {
       words_are = λ id same. ap (with_result (Some 1) id) typed.words_are ∙ ap (λ (i : ℕ). t ∷ i ∷ words) same;

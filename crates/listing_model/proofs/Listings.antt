@@ -79,14 +79,16 @@ named_by : (o : Option (List ℕ)) (op : ℕ) → name_in names op ≡ o → is_
 named_by None op is h = cc
 named_by (Some name) op is h =
     let front = first_of_both (is_op (op_in names name) op && above 32 name && not (slice_index name 0 == 37)) (nat_le (length name) 32) h in
-    let first = first_of_both (is_op (op_in names name) op && above 32 name) (not (slice_index name 0 == 37)) front in
-    (name, record {
-      is = is;
-      leads_back = is-op (op_in names name) op (first_of_both (is_op (op_in names name) op) (above 32 name) first);
-      clean = second_of_both (is_op (op_in names name) op) (above 32 name) first;
-      letter = not_true (slice_index name 0 == 37) (second_of_both (is_op (op_in names name) op && above 32 name) (not (slice_index name 0 == 37)) front);
-      short = at_most (length name) (second_of_both (is_op (op_in names name) op && above 32 name && not (slice_index name 0 == 37)) (nat_le (length name) 32) h);
-    })
+    let first = first_of_both (is_op (op_in names name) op && above 32 name) (not (slice_index name 0 == 37)) front in (
+      name,
+      record {
+        is = is;
+        leads_back = is-op (op_in names name) op (first_of_both (is_op (op_in names name) op) (above 32 name) first);
+        clean = second_of_both (is_op (op_in names name) op) (above 32 name) first;
+        letter = not_true (slice_index name 0 == 37) (second_of_both (is_op (op_in names name) op && above 32 name) (not (slice_index name 0 == 37)) front);
+        short = at_most (length name) (second_of_both (is_op (op_in names name) op && above 32 name && not (slice_index name 0 == 37)) (nat_le (length name) 32) h);
+      },
+    )
 
 -- ---- one instruction
 
@@ -104,9 +106,9 @@ unfolding line_inst spoken_of op_named
 spoken_by inst operands class name entry named shape spoken =
     let op : first_op (named_fields (fields_of (inst_text inst))) ≡ Some inst.op = ap first_op spoken.named ∙ named.leads_back in
     let words : with_result (place_in (entry_of inst.op)) (first_number (fields_of (inst_text inst))) (other_words (named_fields (fields_of (inst_text inst)))) ≡ inst.words =
-        ap (λ (e : Option Entry). with_result (place_in e) (first_number (fields_of (inst_text inst))) (other_words (named_fields (fields_of (inst_text inst))))) entry
-        ∙ ap (λ (fs : List (List ℕ)). with_result (place_in (Some (Listed class operands))) (first_number (fields_of (inst_text inst))) (other_words fs)) spoken.named
-        ∙ shape.words_are (first_number (fields_of (inst_text inst))) spoken.number in
+    ap (λ (e : Option Entry). with_result (place_in e) (first_number (fields_of (inst_text inst))) (other_words (named_fields (fields_of (inst_text inst))))) entry
+    ∙ ap (λ (fs : List (List ℕ)). with_result (place_in (Some (Listed class operands))) (first_number (fields_of (inst_text inst))) (other_words fs)) spoken.named
+    ∙ shape.words_are (first_number (fields_of (inst_text inst))) spoken.number in
     ap (λ (o : Option ℕ). elim o [ None ↦ None | Some k ↦ Some (spoken_of k (fields_of (inst_text inst))) ]) op
     ∙ ap (λ (ws : List ℕ). Some (record { op = inst.op; words = ws })) words
 

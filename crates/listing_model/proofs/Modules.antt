@@ -80,6 +80,7 @@ listed_kept [] h = (refl, omega arith)
 listed_kept (inst ∷ insts) h =
     let b = both_words (words_of inst) (flat_map words_of insts) h in
     keep_by (not (is_skipped inst)) inst (listed insts) insts b.0 (listed_kept insts b.1)
+
 sound_entry : (e : Option Entry) (k : Option (List Operand)) (op place : ℕ)
     → (if is_none e then Some (UnknownOp op) else if lists e && is_none k then Some (BadShape place) else if floats e then Some FloatType else None) ≡ None
     → skips e ≡ false → is_some k ≡ true
@@ -178,7 +179,7 @@ pub listing_of_read : (words : List ℕ) (m : Words) → module_of words ≡ Ok 
 listing_of_read words m is h =
     let header = header_is (has_header words) (slice_index words 3) (list_of_cut 0 (cut (drop HEADER_WORDS words))) m is in
     let l = limits (nat_le HEADER_WORDS (length words)) (nat_le (length words) MODULE_WORDS) (slice_index words 0 == MAGIC) (is_version (slice_index words 1))
-        (nat_lt 0 (slice_index words 3)) (nat_le (slice_index words 3) MAX_BOUND) (slice_index words 4 == 0) header.0 in
+    (nat_lt 0 (slice_index words 3)) (nat_le (slice_index words 3) MAX_BOUND) (slice_index words 4 == 0) header.0 in
     let read = read_list (drop HEADER_WORDS words) m.insts header.2 (words_behind HEADER_WORDS words h) in
     let most : m.bound ≤ MAX_BOUND = omega (arith, at_most (slice_index words 3) MAX_BOUND l.3, header.1) in
     listing_assembled m.bound m.insts (omega (arith, positive (slice_index words 3) l.2, header.1)) most read.fit

@@ -81,7 +81,7 @@ more_digits : (w : ℕ) (ds ws : List ℕ) → w < 2 ^ 32 → string_words (leng
 more_digits w ds ws small h =
     let n : length (flat_map byte_digits (bytes_of w) ++ ds) / 8 ≡ suc (length ds / 8) = omega arith in
     let v : digits_word (flat_map byte_digits (bytes_of w) ++ ds) ≡ w =
-        four_back (w % 256) (w / 256 % 256) (w / 65536 % 256) (w / 16777216) ds (omega arith) (omega arith) (omega arith) (omega (arith, small)) ∙ omega arith in
+    four_back (w % 256) (w / 256 % 256) (w / 65536 % 256) (w / 16777216) ds (omega arith) (omega arith) (omega arith) (omega (arith, small)) ∙ omega arith in
     ap (λ (k : ℕ). string_words k (flat_map byte_digits (bytes_of w) ++ ds)) n ∙ ap (λ (x : ℕ). x ∷ string_words (length ds / 8) ds) v ∙ ap (λ (xs : List ℕ). w ∷ xs) h
 
 more : (w : ℕ) (ws : List ℕ) → text_end w ≡ None → w < 2 ^ 32 → Back ws → Back (w ∷ ws)
