@@ -1,0 +1,5 @@
+pub mod Assembly
+pub mod Listing
+pub mod Meaning
+pub mod Names
+pub mod Spelling

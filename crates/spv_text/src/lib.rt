@@ -1,0 +1,17 @@
+//! Modules as text, both ways: the listing of a module's words, and the words that a listing is assembled to.
+#![tactic(auto)]
+
+mod fields;
+mod line;
+mod lines;
+mod list;
+mod names;
+mod parts;
+
+pub use lines::assemble;
+pub use list::list_text;
+pub use listing_model::{LISTING_BYTES, ListFault, TextCause, TextFault};
+pub use spirv_model::WordsFault;
+
+#[cfg(test)]
+mod tests;

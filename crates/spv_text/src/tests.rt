@@ -1,0 +1,161 @@
+use crate::{ListFault, TextCause, WordsFault, assemble, list_text};
+use std::alloc::{AllocError, Global};
+use std::test::Fail;
+
+/// A fragment module of the colour 42.
+const COLOUR: [u32; 56] = [
+    0x7230203, 0x10000, 0, 9, 0, 0x20011, 1, 0x3000e, 0, 1, 0x6000f, 4, 7, 0x6e69616d, 0, 5,
+    0x30010, 7, 7, 0x40047, 5, 0x1e, 0, 0x20013, 1, 0x30021, 2, 1, 0x40015, 3, 0x20, 0, 0x40020, 4,
+    3, 3, 0x4003b, 4, 5, 3, 0x4002b, 3, 6, 0x2a, 0x50036, 1, 7, 0, 2, 0x200f8, 8, 0x3003e, 5, 6,
+    0x100fd, 0x10038,
+];
+
+/// Its listing.
+const COLOUR_TEXT: &[u8] = b"spvt 1 9\n\
+    OpCapability 1\n\
+    OpMemoryModel 0 1\n\
+    OpEntryPoint 4 %7 x6d61696e %5\n\
+    OpExecutionMode %7 7\n\
+    OpDecorate %5 30 0\n\
+    %1 = OpTypeVoid\n\
+    %2 = OpTypeFunction %1\n\
+    %3 = OpTypeInt 32 0\n\
+    %4 = OpTypePointer 3 %3\n\
+    %5 = OpVariable %4 3\n\
+    %6 = OpConstant %3 42\n\
+    %7 = OpFunction %1 0 %2\n\
+    %8 = OpLabel\n\
+    OpStore %5 %6\n\
+    OpReturn\n\
+    OpFunctionEnd\n";
+
+// What assembling this text answers, if it is a fault.
+fn fault_of(alloc: Global, text: &[u8]) -> Option<(u32, TextCause)> {
+    match assemble(alloc, text) {
+        Ok(_) => None,
+        Err(fault) => Some((fault.line, fault.cause)),
+    }
+}
+
+#[test]
+fn a_module_is_listed_and_assembled(rt: HostRuntime) -> Result<(), Fail> {
+    let text = list_text(rt.alloc(), &COLOUR)?;
+    assert_eq!(rt; text.as_slice(), COLOUR_TEXT);
+    let words = assemble(rt.alloc(), COLOUR_TEXT).ok().ok_or("refused")?;
+    assert_eq!(rt; words.as_slice(), COLOUR.as_slice());
+    Ok(())
+}
+
+#[test]
+fn words_that_are_no_module_have_no_listing(rt: HostRuntime) {
+    assert_eq!(rt;
+        list_text(rt.alloc(), &[]).err(),
+        Some(ListFault::Words(WordsFault::BadHeader))
+    );
+    let float = [0x7230203, 0x10000, 0, 9, 0, 0x20013, 1, 0x30016, 2, 32];
+    assert_eq!(rt;
+        list_text(rt.alloc(), &float).err(),
+        Some(ListFault::Words(WordsFault::FloatType))
+    );
+}
+
+#[test]
+fn the_first_faulty_line_and_its_first_cause_are_answered(rt: HostRuntime) {
+    let cases: [(&[u8], u32, TextCause); 26] = [
+        (b"", 1, TextCause::NoHead),
+        (b"spvt 1 9", 1, TextCause::NoEnd),
+        (b"gplt 1\n", 1, TextCause::NoHead),
+        (b"spvt 1 0\n", 1, TextCause::NoHead),
+        (b"spvt 1 65537\n", 1, TextCause::NoHead),
+        (b"spvt 1 09\n", 1, TextCause::NoHead),
+        (b"spvt 1 9\r\nOpReturn\r\n", 1, TextCause::NoHead),
+        (b"spvt 1 9\nOpReturn\r\n", 2, TextCause::NoName),
+        (b"spvt 1 9\nOpReturn", 2, TextCause::NoEnd),
+        (b"spvt 1 9\nOpNop", 2, TextCause::NoEnd),
+        (b"spvt 1 9\n%3 = OpTypeFloat 32\n", 2, TextCause::NoName),
+        (b"spvt 1 9\nOpNop\n", 2, TextCause::NoName),
+        (b"spvt 1 9\n\n", 2, TextCause::NoName),
+        (b"spvt 1 9\nOpRetur\n", 2, TextCause::NoName),
+        (b"spvt 1 9\nOpStore\t%5 %6\n", 2, TextCause::NoName),
+        (b"spvt 1 9\nOpReturn 0\n", 2, TextCause::BadOperands),
+        (b"spvt 1 9\nOpStore 5 %6\n", 2, TextCause::BadOperands),
+        (b"spvt 1 9\nOpStore %05 %6\n", 2, TextCause::BadOperands),
+        (
+            b"spvt 1 9\nOpStore %4294967296 %6\n",
+            2,
+            TextCause::BadOperands,
+        ),
+        (b"spvt 1 9\nOpLabel\n", 2, TextCause::BadOperands),
+        (b"spvt 1 9\n%7 = OpPhi %3 %1\n", 2, TextCause::BadOperands),
+        (b"spvt 1 9\nOpCapability 2\n", 2, TextCause::BadOperands),
+        (
+            b"spvt 1 9\n%1 = OpExtInstImport x4A\n",
+            2,
+            TextCause::BadOperands,
+        ),
+        (
+            b"spvt 1 9\n%1 = OpExtInstImport x4100\n",
+            2,
+            TextCause::BadOperands,
+        ),
+        (
+            b"spvt 1 9\nOpReturn\nOpReturn 0\nOpNop\n",
+            3,
+            TextCause::BadOperands,
+        ),
+        (b"spvt 1 9\nOpReturn\nOpKill \n", 3, TextCause::BadOperands),
+    ];
+    for (text, line, cause) in cases {
+        assert_eq!(rt;
+            fault_of(rt.alloc(), text),
+            Some((line, cause)),
+            "of {text:?}"
+        );
+    }
+}
+
+// A listing with the greatest id bound and so many lines of an instruction of one word.
+fn returns(alloc: Global, count: usize) -> Result<Vec<u8>, AllocError> {
+    let mut text = Vec::from_slice(alloc, b"spvt 1 65536\n")?;
+    for _ in 0..count {
+        text.extend_from_slice(b"OpReturn\n")?;
+    }
+    Ok(text)
+}
+
+#[test]
+fn a_module_has_at_most_the_limit_of_words(rt: HostRuntime) -> Result<(), Fail> {
+    let most = returns(rt.alloc(), 16_379)?;
+    let words = assemble(rt.alloc(), &most).ok().ok_or("refused")?;
+    assert_eq!(rt; words.len(), 16_384);
+    let listed = list_text(rt.alloc(), &words)?;
+    assert_eq!(rt; listed.as_slice(), most.as_slice());
+    let more = returns(rt.alloc(), 16_380)?;
+    assert_eq!(rt;
+        fault_of(rt.alloc(), &more),
+        Some((16_381, TextCause::TooManyWords))
+    );
+    Ok(())
+}
+
+// A listing of one OpTypeStruct with so many members.
+fn structure(alloc: Global, count: usize) -> Result<Vec<u8>, AllocError> {
+    let mut text = Vec::from_slice(alloc, b"spvt 1 9\n%1 = OpTypeStruct")?;
+    for _ in 0..count {
+        text.extend_from_slice(b" %4294967295")?;
+    }
+    text.extend_from_slice(b"\n")?;
+    Ok(text)
+}
+
+#[test]
+fn a_line_may_have_more_words_than_an_instruction(rt: HostRuntime) -> Result<(), Fail> {
+    let most = structure(rt.alloc(), 16_377)?;
+    assert_eq!(rt; fault_of(rt.alloc(), &most), None);
+    let more = structure(rt.alloc(), 70_000)?;
+    assert_eq!(rt;
+        fault_of(rt.alloc(), &more),
+        Some((2, TextCause::TooManyWords))
+    );
+    Ok(())
+}
