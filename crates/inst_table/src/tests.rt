@@ -275,13 +275,9 @@ fn one_record_is_accepted(rt: HostRuntime) -> Result<(), Fail> {
     let Ok(closed) = close(rt.alloc(), table, creator, publisher, pass) else {
         panic!(rt; "no memory")
     };
-    assert!(rt; closed.rows.len() == 1 && closed.units.len() == 1);
-    assert!(rt;
-        closed
-            .rows
-            .get(0)
-            .is_some_and(|row| row[0] == 1 && row[1] == 0)
-    );
+    let rows = &closed.rows;
+    assert!(rt; rows.len() == 1 && closed.units.len() == 1);
+    assert!(rt; rows.get(0).is_some_and(|row| row[0] == 1 && row[1] == 0));
     Ok(())
 }
 

@@ -203,11 +203,8 @@ fn words_fit_their_operands(rt: HostRuntime) -> Result<(), Fail> {
         (&[0x50003, 1, 2, 3, 0x41414141], true),
     ];
     for (body, fits) in cases {
-        let fault = if fits {
-            None
-        } else {
-            Some(WordsFault::BadShape(0))
-        };
+        let bad = Some(WordsFault::BadShape(0));
+        let fault = if fits { None } else { bad };
         assert_eq!(rt; fault_of(rt.alloc(), body)?, fault, "of {body:?}");
     }
     Ok(())

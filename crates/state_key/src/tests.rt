@@ -5,21 +5,68 @@ use crate::{
 };
 use limits::{ATTACHMENTS, DESCRIPTOR_SETS, ENTRIES, KEY_WORDS, LOCATIONS, VERTEX_BINDINGS};
 
-// Points, vertex module 0, fragment module 1, all four parts retained, one attachment.
-fn point_state() -> State {
-    let layout = Layout {
+fn empty_layout() -> Layout {
+    Layout {
         independent: false,
         push_words: 0,
         sets: [None; DESCRIPTOR_SETS],
-    };
-    let entries = SpecValues {
+    }
+}
+
+fn no_entries() -> SpecValues {
+    SpecValues {
         entries: [None; ENTRIES],
-    };
+    }
+}
+
+// The pre-rasterization part with vertex module 0, retained.
+fn point_prerast() -> PrerastPart {
+    PrerastPart {
+        retain: true,
+        module: 0,
+        layout: empty_layout(),
+        view_mask: 0,
+        discard: false,
+        cull: 0,
+        ccw: false,
+        entries: no_entries(),
+    }
+}
+
+// The fragment part with fragment module 1, retained.
+fn point_fragment() -> FragmentPart {
+    FragmentPart {
+        retain: true,
+        module: 1,
+        layout: empty_layout(),
+        view_mask: 0,
+        depth: None,
+        multisample: None,
+        entries: no_entries(),
+    }
+}
+
+// The output part with one attachment, retained.
+fn point_output() -> OutputPart {
     let mut attachments = [None; ATTACHMENTS];
     attachments[0] = Some(Attachment {
         format: 1,
         write_mask: 1,
     });
+    OutputPart {
+        retain: true,
+        view_mask: 0,
+        multisample: Multisample {
+            samples: 1,
+            mask: 1,
+        },
+        logic: None,
+        attachments,
+    }
+}
+
+// Points, vertex module 0, fragment module 1, all four parts retained, one attachment.
+fn point_state() -> State {
     State {
         vertex: VertexPart {
             retain: true,
@@ -27,35 +74,9 @@ fn point_state() -> State {
             bindings: [None; VERTEX_BINDINGS],
             attributes: [None; LOCATIONS],
         },
-        prerast: PrerastPart {
-            retain: true,
-            module: 0,
-            layout,
-            view_mask: 0,
-            discard: false,
-            cull: 0,
-            ccw: false,
-            entries,
-        },
-        fragment: Some(FragmentPart {
-            retain: true,
-            module: 1,
-            layout,
-            view_mask: 0,
-            depth: None,
-            multisample: None,
-            entries,
-        }),
-        output: Some(OutputPart {
-            retain: true,
-            view_mask: 0,
-            multisample: Multisample {
-                samples: 1,
-                mask: 1,
-            },
-            logic: None,
-            attachments,
-        }),
+        prerast: point_prerast(),
+        fragment: Some(point_fragment()),
+        output: Some(point_output()),
     }
 }
 
