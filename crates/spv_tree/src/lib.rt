@@ -20,4 +20,6 @@ pub use structure::tree_of;
 pub use tree::{Block, Body, Choice, Node, Pick, PickCase, Round, Run};
 
 #[cfg(test)]
+mod faulty_bodies;
+#[cfg(test)]
 mod tests;

@@ -1,4 +1,4 @@
-ghost use Rattle.std.specs.Prelude.{◌≡◌, ℕ, ◌-◌, ◌<◌, ◌≤◌, ◌^◌, not, ◌&&◌, ◌==◌, if◌then◌else◌, List, Some, IfOk, OnOk, length, slice_get};
+ghost use Rattle.std.specs.Prelude.{◌≡◌, ℕ, ◌-◌, ◌<◌, ◌≤◌, ◌^◌, not, ◌&&◌, ◌==◌, if◌then◌else◌, List, [], ◌∷◌, ◌++◌, Some, IfOk, OnOk, length, slice_get};
 ghost use Rattle.std.specs.Ordering.{nat_cmp};
 ghost use Rattle.std.specs.BTreeMap.{get};
 ghost use Rattle.std.specs.BTreeSet.{contains};
@@ -8,7 +8,8 @@ ghost use Rattle.body_model.specs.Scope as grammar;
 ghost use Rattle.body_model.specs.Switches.{labels_of, without};
 ghost use Rattle.spv_tree.specs.Barred.{HasLabels, as_cases, scope_in};
 ghost use Rattle.spv_tree.specs.Parts.{AreSwitches, IsArm, IsArms, IsDueBlock, IsLoop, IsSelection, IsSequence, IsSwitch, Knows, Numbers};
-ghost use Rattle.spv_tree.specs.Trees.{block_at, numbered};
+ghost use Rattle.spv_tree.specs.declared.tree.Node.TheVariants as node;
+ghost use Rattle.spv_tree.specs.Trees.{block_at, numbered, run};
 
 use crate::barred::{OpenArm, Targets, with_arm};
 use crate::block::block_end;
@@ -17,7 +18,7 @@ use crate::labels::{arm_label, missing};
 use crate::scope;
 use crate::scope::Scope;
 use crate::tree::{Block, Choice, Node, Pick, PickCase, Round, Run};
-use body_model::{BlockEnd, LoopHead, SelectionHead, SwitchHead, TreeFault};
+use body_model::{BlockEnd, LoopHead, SelectionHead, SequenceEnd, SwitchHead, TreeFault};
 use limits::NESTING;
 use spirv_model::Inst;
 use sqlite_items::{Boxed, Items};
@@ -85,18 +86,7 @@ pub fn sequence(
     loop {
         match due_block(alloc, insts, tables, arms, scope, wanted, place)? {
             BlockEnd::Broken(fault) => return Err(fault),
-            BlockEnd::Ends(last) => {
-                nodes.push(Node::Block(block(insts, place, last.after)))?;
-                let run = Run {
-                    nodes,
-                    end: last.end,
-                };
-                return Ok(ReadSequence {
-                    run,
-                    next: last.next,
-                    place: last.after,
-                });
-            }
+            BlockEnd::Ends(last) => return Ok(ended(insts, nodes, place, last)?),
             BlockEnd::GoesOn(after) => {
                 nodes.push(Node::Block(block(insts, place, after)))?;
                 scope = scope::behind_block(scope);
@@ -151,6 +141,35 @@ fn due_block(
     }
     let end = block_end(alloc, insts, &tables.targets, arms, scope, place)?;
     Ok(end)
+}
+
+/// The sequence that ends with the block at a place, behind the nodes that were read.
+fn ended(
+    insts: &[Inst],
+    nodes: Items<Node>,
+    place: u32,
+    last: SequenceEnd,
+) -> Result<ReadSequence, AllocError>
+    requires within { place < length insts.now }
+    requires forward { place ≤ last.after }
+    ensures { let all = nodes ++ node.Block (block_at insts.now place last.after) ∷ [] in
+        IfOk result (λ read. read ≡ record {
+          run = run all last.end;
+          next = last.next;
+          place = last.after;
+        }) }
+{
+    let mut nodes = nodes;
+    nodes.push(Node::Block(block(insts, place, last.after)))?;
+    let run = Run {
+        nodes,
+        end: last.end,
+    };
+    Ok(ReadSequence {
+        run,
+        next: last.next,
+        place: last.after,
+    })
 }
 
 /// The block from its OpLabel up to the place after its terminator.

@@ -1,41 +1,14 @@
 ghost use Rattle.std.specs.Prelude.{◌<◌, IfOk};
 ghost use Rattle.spv_tree.specs.Trees.{IsTreeOf};
 
+use crate::faulty_bodies::{
+    AGAINST_THE_GRAMMAR, END, IN_A_LOOP, IN_AN_ARM, LABEL_20, LABEL_21, LABEL_22, LOOP_TO_BODY,
+    Line, OF_A_SWITCH, RETURN, SWITCH_TO_ARM,
+};
 use crate::{Body, Inst, Items, Node, Pick, PickCase, Run, TreeFault, flatten, tree_of};
 use spirv_model::op;
 use std::alloc::{AllocError, Global};
 use std::test::Fail;
-
-type Line = (u16, &'static [u32]);
-
-const LABEL_20: Line = (op::LABEL, &[20]);
-
-const LABEL_21: Line = (op::LABEL, &[21]);
-
-const LABEL_22: Line = (op::LABEL, &[22]);
-
-const RETURN: Line = (op::RETURN, &[]);
-
-const END: Line = (op::FUNCTION_END, &[]);
-
-/// From the first block, with the label 20, a loop's condition sequence 32, up to its body's label 33.
-const LOOP_TO_BODY: [Line; 6] = [
-    LABEL_20,
-    (op::LOOP_MERGE, &[30, 31, 0]),
-    (op::BRANCH, &[32]),
-    (op::LABEL, &[32]),
-    (op::BRANCH_CONDITIONAL, &[4, 33, 30]),
-    (op::LABEL, &[33]),
-];
-
-/// From the first block, with the label 20, an OpSwitch with the arms 22 and 23 and the merge block 21, up to the label
-/// of its arm 22.
-const SWITCH_TO_ARM: [Line; 4] = [
-    LABEL_20,
-    (op::SELECTION_MERGE, &[21, 0]),
-    (op::SWITCH, &[6, 22, 1, 23]),
-    LABEL_22,
-];
 
 /// The instructions of a function: OpFunction, and these.
 fn function(alloc: Global, parts: &[&[Line]]) -> Result<Vec<Inst>, AllocError> {
@@ -354,133 +327,7 @@ fn a_selection_in_an_arm_leaves_to_the_merge_block_of_the_switch(
 #[test]
 fn the_first_fault_against_the_grammar_is_answered(rt: HostRuntime) -> Result<(), Fail> {
     let alloc = rt.alloc();
-    let cases: [(&[Line], TreeFault); 15] = [
-        (&[], TreeFault::BadBlock(1)),
-        (
-            &[LABEL_20, (op::BRANCH, &[20]), LABEL_20],
-            TreeFault::BadBlock(3),
-        ),
-        (
-            &[LABEL_20, (op::PHI, &[3, 60]), RETURN],
-            TreeFault::BadBlock(2),
-        ),
-        (
-            &[
-                LABEL_20,
-                (op::PHI, &[3, 60]),
-                (op::LOOP_MERGE, &[31, 32, 0]),
-                (op::BRANCH, &[33]),
-                (op::LABEL, &[33]),
-            ],
-            TreeFault::BadBlock(2),
-        ),
-        (
-            &[LABEL_20, (op::BRANCH, &[22]), LABEL_21],
-            TreeFault::BadExit(2),
-        ),
-        (
-            &[LABEL_20, (op::BRANCH_CONDITIONAL, &[4, 21, 22]), LABEL_21],
-            TreeFault::BadMerge(2),
-        ),
-        (
-            &[LABEL_20, (op::SELECTION_MERGE, &[21, 0]), RETURN],
-            TreeFault::BadMerge(2),
-        ),
-        (
-            &[
-                LABEL_20,
-                (op::SELECTION_MERGE, &[21, 0]),
-                (op::BRANCH_CONDITIONAL, &[4, 22, 22]),
-                LABEL_22,
-            ],
-            TreeFault::BadMerge(3),
-        ),
-        (
-            &[
-                LABEL_20,
-                (op::SELECTION_MERGE, &[21, 0]),
-                (op::BRANCH_CONDITIONAL, &[4, 22, 23]),
-                (op::LABEL, &[23]),
-            ],
-            TreeFault::BadMerge(4),
-        ),
-        (
-            &[
-                LABEL_20,
-                (op::SELECTION_MERGE, &[21, 0]),
-                (op::BRANCH_CONDITIONAL, &[4, 21, 21]),
-                LABEL_21,
-                (op::PHI, &[3, 60]),
-                (op::VARIABLE, &[4, 90, 7]),
-            ],
-            TreeFault::BadBlock(6),
-        ),
-        (
-            &[
-                LABEL_20,
-                (op::BRANCH, &[21]),
-                LABEL_21,
-                (op::PHI, &[3, 60]),
-                RETURN,
-            ],
-            TreeFault::BadBlock(4),
-        ),
-        (
-            &[
-                LABEL_20,
-                (op::BRANCH, &[21]),
-                LABEL_21,
-                (op::I_ADD, &[3, 60, 6, 6]),
-                (op::PHI, &[3, 61]),
-                (op::LOOP_MERGE, &[30, 31, 0]),
-                (op::BRANCH, &[32]),
-            ],
-            TreeFault::BadBlock(5),
-        ),
-        (
-            &[
-                LABEL_20,
-                (op::LOOP_MERGE, &[30, 31, 0]),
-                (op::BRANCH, &[32]),
-                (op::LABEL, &[32]),
-                RETURN,
-            ],
-            TreeFault::BadExit(5),
-        ),
-        (
-            &[
-                LABEL_20,
-                (op::LOOP_MERGE, &[30, 31, 0]),
-                (op::BRANCH, &[32]),
-                (op::LABEL, &[32]),
-                (op::SELECTION_MERGE, &[40, 0]),
-                (op::BRANCH_CONDITIONAL, &[4, 41, 40]),
-                (op::LABEL, &[41]),
-                (op::LOOP_MERGE, &[50, 51, 0]),
-                (op::BRANCH, &[52]),
-            ],
-            TreeFault::BadMerge(8),
-        ),
-        (
-            &[
-                LABEL_20,
-                (op::LOOP_MERGE, &[30, 31, 0]),
-                (op::BRANCH, &[32]),
-                (op::LABEL, &[32]),
-                (op::BRANCH_CONDITIONAL, &[4, 33, 30]),
-                (op::LABEL, &[33]),
-                (op::BRANCH, &[31]),
-                (op::LABEL, &[31]),
-                (op::BRANCH, &[20]),
-                (op::LABEL, &[30]),
-                (op::PHI, &[3, 60]),
-                (op::LOOP_MERGE, &[50, 51, 0]),
-                (op::BRANCH, &[52]),
-            ],
-            TreeFault::BadBlock(11),
-        ),
-    ];
-    for (lines, fault) in cases {
+    for (lines, fault) in AGAINST_THE_GRAMMAR {
         let insts = function(alloc, &[lines, &[END]])?;
         assert_eq!(rt; read(alloc, insts.as_slice()).err(), Some(fault));
     }
@@ -506,61 +353,7 @@ fn the_function_ends_the_list(rt: HostRuntime) -> Result<(), Fail> {
 #[test]
 fn a_loop_is_left_and_gone_on_with_as_it_says(rt: HostRuntime) -> Result<(), Fail> {
     let alloc = rt.alloc();
-    let cases: [(&[Line], TreeFault); 8] = [
-        (&[(op::BRANCH, &[20])], TreeFault::BadExit(7)),
-        (
-            &[(op::BRANCH, &[31]), (op::LABEL, &[31]), (op::BRANCH, &[30])],
-            TreeFault::BadExit(9),
-        ),
-        (
-            &[(op::BRANCH, &[31]), (op::LABEL, &[31]), RETURN],
-            TreeFault::BadExit(9),
-        ),
-        (
-            &[(op::BRANCH, &[31]), (op::LABEL, &[34])],
-            TreeFault::BadMerge(8),
-        ),
-        (
-            &[
-                (op::BRANCH, &[31]),
-                (op::LABEL, &[31]),
-                (op::SELECTION_MERGE, &[60, 0]),
-                (op::BRANCH_CONDITIONAL, &[4, 61, 60]),
-                (op::LABEL, &[61]),
-                (op::BRANCH, &[20]),
-            ],
-            TreeFault::BadExit(12),
-        ),
-        (
-            &[
-                (op::PHI, &[3, 60]),
-                (op::LOOP_MERGE, &[50, 51, 0]),
-                (op::BRANCH, &[52]),
-            ],
-            TreeFault::BadBlock(7),
-        ),
-        (
-            &[
-                (op::LOOP_MERGE, &[50, 51, 0]),
-                (op::BRANCH, &[52]),
-                (op::LABEL, &[52]),
-                (op::BRANCH_CONDITIONAL, &[4, 53, 50]),
-                (op::LABEL, &[53]),
-                (op::BRANCH, &[30]),
-            ],
-            TreeFault::BadExit(12),
-        ),
-        (
-            &[
-                (op::SELECTION_MERGE, &[40, 0]),
-                (op::SWITCH, &[6, 41, 1, 31]),
-                (op::LABEL, &[41]),
-                (op::BRANCH, &[31]),
-            ],
-            TreeFault::BadExit(10),
-        ),
-    ];
-    for (lines, fault) in cases {
+    for (lines, fault) in IN_A_LOOP {
         let insts = function(alloc, &[&LOOP_TO_BODY, lines, &[END]])?;
         assert_eq!(rt; read(alloc, insts.as_slice()).err(), Some(fault));
     }
@@ -570,69 +363,7 @@ fn a_loop_is_left_and_gone_on_with_as_it_says(rt: HostRuntime) -> Result<(), Fai
 #[test]
 fn an_arm_of_a_switch_leads_to_no_other(rt: HostRuntime) -> Result<(), Fail> {
     let alloc = rt.alloc();
-    let cases: [(&[Line], TreeFault); 13] = [
-        (
-            &[(op::BRANCH, &[23]), (op::LABEL, &[23])],
-            TreeFault::BadExit(5),
-        ),
-        (&[(op::BRANCH, &[22]), LABEL_22], TreeFault::BadBlock(6)),
-        (&[(op::BRANCH, &[21]), LABEL_21], TreeFault::BadMerge(6)),
-        (
-            &[(op::BRANCH, &[21]), (op::LABEL, &[24])],
-            TreeFault::BadMerge(6),
-        ),
-        (&[(op::BRANCH, &[21]), RETURN], TreeFault::BadBlock(6)),
-        (&[(op::BRANCH, &[21])], TreeFault::BadMerge(6)),
-        (&[(op::BRANCH, &[20])], TreeFault::BadExit(5)),
-        (
-            &[
-                (op::LOOP_MERGE, &[30, 31, 0]),
-                (op::BRANCH, &[23]),
-                (op::LABEL, &[23]),
-            ],
-            TreeFault::BadExit(6),
-        ),
-        (
-            &[
-                (op::LOOP_MERGE, &[30, 31, 0]),
-                (op::BRANCH, &[32]),
-                (op::LABEL, &[32]),
-                (op::BRANCH_CONDITIONAL, &[4, 33, 30]),
-                (op::LABEL, &[33]),
-                (op::BRANCH, &[21]),
-            ],
-            TreeFault::BadExit(10),
-        ),
-        (
-            &[
-                (op::SELECTION_MERGE, &[30, 0]),
-                (op::SWITCH, &[6, 31, 1, 30]),
-                (op::LABEL, &[31]),
-                (op::BRANCH, &[21]),
-            ],
-            TreeFault::BadExit(8),
-        ),
-        (
-            &[
-                (op::SELECTION_MERGE, &[30, 0]),
-                (op::BRANCH_CONDITIONAL, &[4, 31, 30]),
-                (op::LABEL, &[31]),
-                (op::BRANCH, &[23]),
-            ],
-            TreeFault::BadExit(8),
-        ),
-        (
-            &[
-                (op::SELECTION_MERGE, &[30, 0]),
-                (op::SWITCH, &[6, 31, 1, 32]),
-                (op::LABEL, &[32]),
-                (op::BRANCH, &[31]),
-            ],
-            TreeFault::BadExit(8),
-        ),
-        (&[(op::PHI, &[3, 60]), RETURN], TreeFault::BadBlock(5)),
-    ];
-    for (lines, fault) in cases {
+    for (lines, fault) in IN_AN_ARM {
         let insts = function(alloc, &[&SWITCH_TO_ARM, lines, &[END]])?;
         assert_eq!(rt; read(alloc, insts.as_slice()).err(), Some(fault));
     }
@@ -642,49 +373,7 @@ fn an_arm_of_a_switch_leads_to_no_other(rt: HostRuntime) -> Result<(), Fail> {
 #[test]
 fn a_switch_is_laid_out_as_its_words_say(rt: HostRuntime) -> Result<(), Fail> {
     let alloc = rt.alloc();
-    let cases: [(&[Line], TreeFault); 5] = [
-        (
-            &[LABEL_20, (op::SWITCH, &[6, 22, 1, 23]), LABEL_22],
-            TreeFault::BadMerge(2),
-        ),
-        (
-            &[
-                LABEL_20,
-                (op::LOOP_MERGE, &[21, 22, 0]),
-                (op::SWITCH, &[6, 22, 1, 23]),
-                LABEL_22,
-            ],
-            TreeFault::BadMerge(2),
-        ),
-        (
-            &[
-                LABEL_20,
-                (op::SELECTION_MERGE, &[21, 0]),
-                (op::SWITCH, &[6, 22, 1, 23, 2, 24, 1, 23]),
-                LABEL_22,
-            ],
-            TreeFault::BadMerge(3),
-        ),
-        (
-            &[
-                LABEL_20,
-                (op::SELECTION_MERGE, &[21, 0]),
-                (op::SWITCH, &[6, 22, 1, 23]),
-                LABEL_21,
-            ],
-            TreeFault::BadMerge(4),
-        ),
-        (
-            &[
-                LABEL_20,
-                (op::SELECTION_MERGE, &[21, 0]),
-                (op::SWITCH, &[6, 21, 1, 21]),
-                LABEL_22,
-            ],
-            TreeFault::BadMerge(4),
-        ),
-    ];
-    for (lines, fault) in cases {
+    for (lines, fault) in OF_A_SWITCH {
         let insts = function(alloc, &[lines, &[END]])?;
         assert_eq!(rt; read(alloc, insts.as_slice()).err(), Some(fault));
     }

@@ -1,4 +1,4 @@
-use Rattle.std.proofs.Common.{rules, ℕ, ◌==◌, if◌then◌else◌, List, Some, refl, ap, subst, ◌∙◌, arith}
+use Rattle.std.proofs.Common.{rules, ℕ, ◌==◌, if◌then◌else◌, Some, Ok, refl, ap, subst, sym, ◌∙◌, arith}
 use Rattle.std.proofs.lemmas.Result.{err_from_is_err_and}
 use Rattle.std.specs.Ordering.{nat_cmp}
 use Rattle.std.specs.BTreeMap.{get}
@@ -9,10 +9,9 @@ use Rattle.body_model.specs.Grammar.{straight}
 use Rattle.body_model.proofs.Dues.{due_within}
 use Rattle.body_model.specs.Faults.{broken_block}
 use Rattle.body_model.proofs.Forward.{forward, arm_forward, arms_forward}
-use Rattle.spv_tree.specs.declared.tree.Node.{Node}
+use Rattle.spv_tree.specs.declared.sequence.ReadSequence.{ReadSequence}
 use Rattle.spv_tree.specs.Barred.{HasLabels, as_cases, barred_by, scope_in}
 use Rattle.spv_tree.specs.Parts.{IsBlock, IsSequence}
-use Rattle.spv_tree.specs.Trees.{run}
 use Rattle.spv_tree.proofs.ArmNumbers.{no_arms, one_more, some_left, all_read, none_numbered, is_none, is_some}
 use Rattle.spv_tree.proofs.FaultReasons.{reason_for}
 use Rattle.spv_tree.proofs.Fronts.{both, after_block, after_choice, after_pick, after_round, at_end, front_as, pushed_block, pushed_both}
@@ -100,11 +99,12 @@ pub sequence-returns-in-Ends : goal.sequence-returns-in-Ends
 sequence-returns-in-Ends t c =
     let insts = c.args.insts.now in
     let so = c.loop-nodes in
+    let scope = scope_in insts c.args.arms.now c.args.scope in
     let now = scope_in insts c.args.arms.now so.scope in
     let last = c.in-Ends.last in
     let block = subst (IsBlock insts now so.wanted so.place) c.in-Ends.is c.in_ok-fault.ensures in
-    at_end insts (scope_in insts c.args.arms.now c.args.scope) c.args.wanted c.args.place so.nodes now so.wanted so.place last _ so.invariant block.here block.is
-    (ap (λ (ns : List Node). run ns last.end) (pushed_block insts so.nodes c.push.new.self so.place last.after c.block.result c.in_ok-push-in-Ends.ensures.ok c.block.ensures))
+    subst (λ (read : ReadSequence). IsSequence insts scope c.args.wanted c.args.place (Ok read)) (sym c.in_ok-ended-in-Ends.ensures)
+    (at_end insts scope c.args.wanted c.args.place so.nodes now so.wanted so.place last _ so.invariant block.here block.is refl)
 
 pub sequence-loop-nodes-preserved-in-GoesOn : goal.sequence-loop-nodes-preserved-in-GoesOn
 sequence-loop-nodes-preserved-in-GoesOn t c =
@@ -114,9 +114,9 @@ sequence-loop-nodes-preserved-in-GoesOn t c =
     let now = scope_in insts arms so.scope in
     let after = c.in-GoesOn.after in
     let block = subst (IsBlock insts now so.wanted so.place) c.in-GoesOn.is c.in_ok-fault.ensures in
-    front_as insts (scope_in insts arms c.args.scope) c.args.wanted c.args.place _ c.push-in-GoesOn.new.self _ (scope_in insts arms c.behind_block-scope.result) _ after
+    front_as insts (scope_in insts arms c.args.scope) c.args.wanted c.args.place _ c.push.new.self _ (scope_in insts arms c.behind_block-scope.result) _ after
     (both insts (scope_in insts arms c.args.scope) c.args.wanted c.args.place so.nodes now so.wanted so.place _ _ _ after so.invariant (after_block insts now so.wanted so.place after block.here block.is))
-    (pushed_block insts so.nodes c.push-in-GoesOn.new.self so.place after c.block-in-GoesOn.result c.in_ok-push-in-GoesOn.ensures.ok c.block-in-GoesOn.ensures) (c.behind_block-scope.ensures (barred_by insts arms))
+    (pushed_block insts so.nodes c.push.new.self so.place after c.block.result c.in_ok-push-in-GoesOn.ensures.ok c.block.ensures) (c.behind_block-scope.ensures (barred_by insts arms))
 
 pub sequence-loop-nodes-smaller-in-Selects : goal.sequence-loop-nodes-smaller-in-Selects
 sequence-loop-nodes-smaller-in-Selects t c =
