@@ -1,0 +1,2 @@
+pub mod CodeIntervals
+pub mod FaultLaws
