@@ -1,2 +1,10 @@
+mod CompositeFaults
+mod InterfaceFaults
+mod MemoryFaults
+mod SampleIntervals
+mod ScalarFaults
+mod SelectionFaults
+mod ValidSamples
 pub mod CodeIntervals
 pub mod FaultLaws
+pub mod Frames
