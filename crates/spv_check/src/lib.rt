@@ -2,4 +2,7 @@
 //! Rules"), and else the first fault is answered.
 #![tactic(auto)]
 
+mod entry_points;
+mod interfaces;
+
 pub use check_model::{CheckFault, Stage};
