@@ -2,4 +2,14 @@
 //! Rules"), and else the first fault is answered.
 #![tactic(auto)]
 
+mod composite_operands;
+mod memory_operands;
+mod operand_types;
+mod scalar_operands;
+mod storage;
+mod typing;
+
 pub use check_model::{CheckFault, Stage};
+pub use operand_types::operands_fit;
+pub use storage::is_wrong_storage;
+pub use typing::ModuleIds;
