@@ -179,6 +179,25 @@ fn insert_fits(
     has_type(typing, ty, composite) && reaches(typing, object, composite, indices)
 }
 
+/// Whether it is a scalar or a vector of this component.
+fn is_made_of(component: Component, of: Option<Components>) -> bool
+    ensures { result ≡ spec.is_made_of component of }
+{
+    match of {
+        Some(of) => is_same_component(component, of.component),
+        None => false,
+    }
+}
+
+fn count_in(of: Option<Components>) -> u8
+    ensures { result ≡ spec.count_in of }
+{
+    match of {
+        Some(of) => of.count,
+        None => 0,
+    }
+}
+
 /// Whether at least two scalars or vectors of this component have so many together.
 fn vector_parts_fit(typing: &ModuleIds, component: Component, count: u8, parts: &[u32]) -> bool
     ensures {
@@ -189,19 +208,16 @@ fn vector_parts_fit(typing: &ModuleIds, component: Component, count: u8, parts: 
         return false;
     }
     let mut left = count;
-    let mut rest = parts;
-    while let Some((id, after)) = rest.split_first() {
-        let Some(part) = components_of(typing, *id) else {
-            return false;
-        };
-        if !is_same_component(component, part.component) {
+    for id in parts {
+        let part = components_of(typing, *id);
+        if !is_made_of(component, part) {
             return false;
         }
-        if part.count > left {
+        let components = count_in(part);
+        if components > left {
             return false;
         }
-        left -= part.count;
-        rest = after;
+        left -= components;
     }
     left == 0
 }
@@ -253,22 +269,12 @@ const NO_COMPONENT: u32 = 0xffff_ffff;
 
 fn are_literals(components: u32, literals: &[u32]) -> bool
     ensures {
-        let fits = λ literal. nat_lt literal components || (literal == spec.no_component) in
-        result ≡ list_all fits literals.now
+        result ≡ list_all (λ literal. nat_lt literal components || (literal == spec.no_component)) literals.now
     }
 {
     literals
         .iter()
         .all(|literal| *literal < components || *literal == NO_COMPONENT)
-}
-
-fn count_in(of: Option<Components>) -> u8
-    ensures { result ≡ spec.count_in of }
-{
-    match of {
-        Some(of) => of.count,
-        None => 0,
-    }
 }
 
 fn is_vector_of(component: Component, of: Option<Components>) -> bool

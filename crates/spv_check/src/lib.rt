@@ -13,3 +13,6 @@ pub use check_model::{CheckFault, Stage};
 pub use operand_types::operands_fit;
 pub use storage::is_wrong_storage;
 pub use typing::ModuleIds;
+
+#[cfg(test)]
+mod operand_tests;

@@ -1,8 +1,9 @@
 //! Which types the operands of an instruction have.
-ghost use Rattle.std.specs.Prelude.{◌≡◌};
+ghost use Rattle.std.specs.Prelude.{◌≡◌, ◌&&◌, not};
 ghost use Rattle.std.specs.List.{list_all};
 ghost use Rattle.valid_model.specs.Knowledge as knowledge;
 ghost use Rattle.check_model.specs.OperandTypes as spec;
+ghost use Rattle.check_model.specs.Typing as typing_spec;
 ghost use Rattle.check_model.specs.Visibility.{incoming_in};
 ghost use Rattle.spv_check.specs.TypingIn.{typing_in};
 
@@ -37,6 +38,13 @@ fn is_data(meaning: &Meaning) -> bool
     }
 }
 
+/// Whether the value has the type, which is that of pointers or isn't.
+fn value_fits(typing: &ModuleIds, ty: u32, pointer: bool, value: u32) -> bool
+    ensures { result ≡ (typing_spec.has_type (typing_in typing.now) ty value && not pointer) }
+{
+    has_type(typing, ty, value) && !pointer
+}
+
 /// Whether the values of a phi, each before the block that it comes from, have the phi's type and are no pointers.
 fn incoming_fit(typing: &ModuleIds, ty: u32, words: &[u32]) -> bool
     ensures {
@@ -49,10 +57,7 @@ fn incoming_fit(typing: &ModuleIds, ty: u32, words: &[u32]) -> bool
         let Some((_, after)) = after.split_first() else {
             return true;
         };
-        if pointer {
-            return false;
-        }
-        if !has_type(typing, ty, *value) {
+        if !value_fits(typing, ty, pointer, *value) {
             return false;
         }
         rest = after;

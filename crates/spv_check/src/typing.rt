@@ -9,14 +9,12 @@ ghost use Rattle.spv_check.specs.TypingIn.{typing_in};
 use check_model::{Component, Components};
 use spirv_model::{Inst, op};
 use spv_types::{Ids, Meaning, Shape};
-use std::collections::BTreeMap;
 
 /// The instructions of a module, what its ids mean, and whether it is one of a vertex shader.
 #[derive(Debug, Drop)]
 pub struct ModuleIds<'a> {
     pub insts: &'a [Inst],
     pub ids: &'a Ids,
-    pub places: &'a BTreeMap<u32, u32>,
     pub vertex: bool,
 }
 
@@ -43,8 +41,8 @@ fn constant_at(insts: &[Inst], place: usize) -> Option<u32>
 pub fn constant_word(typing: &ModuleIds, id: u32) -> Option<u32>
     ensures { result ≡ (typing_in typing.now).constant id }
 {
-    match typing.places.get(&id) {
-        Some(place) => constant_at(typing.insts, *place as usize),
+    match typing.ids.place(id) {
+        Some(place) => constant_at(typing.insts, place as usize),
         None => None,
     }
 }
