@@ -4,7 +4,7 @@ use Rattle.std.specs.List.{find}
 use Rattle.std.specs.Option.{option_map}
 use Rattle.spirv_model.specs.declared.module.Inst.{Inst}
 use Rattle.spirv_model.specs.Operands.{word_at}
-use Rattle.valid_model.specs.ModuleFacts.{is_entry}
+use Rattle.valid_model.specs.ModuleFacts.{is_entry, model_of}
 use Rattle.check_model.specs.EntryPoints.{is_one_entry, is_shader_entry, entry_points, function_id, bad_entry_count}
 use Rattle.spv_check.specs.FactsTold.{is_shader_entry_in}
 
@@ -61,3 +61,13 @@ not_shader insts b n count one sound is = ap (λ (k : ℕ). Some k) count ∙ so
 pub other_count : (insts : List Inst) (n : ℕ) → n ≡ length (entry_points insts) → (n ≡ 1 → ⊥) → Some n ≡ bad_entry_count insts
 unfolding bad_entry_count
 other_count insts n count other = ap (λ (k : ℕ). Some k) count ∙ some_where _ _ (not_one (function_id insts) (entry_points insts) (λ one. other (count ∙ one)))
+
+same_words : (b : Bool) (f f' m m' t t' : Option ℕ) → b ≡ is_shader_entry_in f m t → f ≡ f' → m ≡ m' → t ≡ t' → b ≡ is_shader_entry_in f' m' t'
+same_words b f f' m m' t t' is x y z = cc
+
+-- what was told of the function and of the first entry point
+pub by_words_told : (insts : List Inst) (b : Bool) (function model target : Option ℕ) → b ≡ is_shader_entry_in function model target
+    → function ≡ function_id insts → model ≡ model_of insts → target ≡ option_map (word_at 1) (find is_entry insts)
+    → b ≡ is_shader_entry_in (function_id insts) (option_map (word_at 0) (find is_entry insts)) (option_map (word_at 1) (find is_entry insts))
+unfolding model_of
+by_words_told insts b function model target is f m t = same_words b _ _ _ _ _ _ is f m t

@@ -1,1 +1,3 @@
 pub mod EntryCounts
+pub mod Typings
+pub mod UsePasses

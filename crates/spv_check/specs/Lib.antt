@@ -1,1 +1,3 @@
 pub mod FactsTold
+pub mod TypingIn
+pub mod Uses

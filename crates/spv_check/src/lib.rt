@@ -2,7 +2,20 @@
 //! Rules"), and else the first fault is answered.
 #![tactic(auto)]
 
+mod composite_operands;
 mod entry_points;
 mod interfaces;
+mod memory_operands;
+mod operand_types;
+mod scalar_operands;
+mod storage;
+mod typing;
+mod uses;
 
 pub use check_model::{CheckFault, Stage};
+pub use operand_types::operands_fit;
+pub use storage::is_wrong_storage;
+pub use typing::ModuleIds;
+
+#[cfg(test)]
+mod operand_tests;

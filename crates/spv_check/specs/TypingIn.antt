@@ -1,0 +1,14 @@
+-- What the ids of a module tell, as what operands are judged by.
+use Rattle.std.specs.Prelude.{ℕ}
+use Rattle.std.specs.Option.{option_and_then}
+use Rattle.valid_model.specs.Definitions.{inst_at}
+use Rattle.check_model.specs.Typing.{Typing, constant_in}
+use Rattle.spv_types.specs.Answers.{meaning_at, place_at}
+use Rattle.spv_check.specs.declared.typing.ModuleIds.{ModuleIds}
+
+abbrev pub typing_in : ModuleIds → Typing
+typing_in known = record {
+  meaning = meaning_at known.ids.now;
+  constant = λ id. option_and_then (λ place. constant_in (inst_at known.insts.now place)) (place_at known.ids.now id);
+  vertex = known.vertex;
+}
