@@ -17,7 +17,7 @@ use Rattle.check_model.specs.Storage.{is_in_function, is_wrong_storage}
 use Rattle.check_model.specs.Validity.{has_bad_operands, has_wrong_storage, use_fault_of, use_fault_at, first_use_fault, use_fault}
 use Rattle.spv_check.specs.declared.typing.ModuleIds.{ModuleIds}
 use Rattle.spv_check.specs.TypingIn.{typing_in}
-use Rattle.spv_check.specs.Uses.{AreHidden}
+use Rattle.spv_check.specs.Uses.{AreHidden, first_fault_of}
 use Rattle.spv_check.proofs.Typings.{AreModuleIds, operands_told, storage_told}
 
 -- ---- the first fault of some places
@@ -64,3 +64,8 @@ unfolding is_in_function
 inside_more insts place before inst within same here =
     ap (λ (b : Bool). b || is_op_function inst) same ∙ ap (λ (i : Inst). list_any is_op_function (take place insts) || is_op_function i) here
     ∙ sym (list_any_more is_op_function insts place no_instruction within)
+
+-- ---- all faults of a list
+
+pub same_first : (a a' : Option ℕ) (b b' : Option CheckFault) (c c' d d' : Option ℕ) → a ≡ a' → b ≡ b' → c ≡ c' → d ≡ d' → first_fault_of a b c d ≡ first_fault_of a' b' c' d'
+same_first a a' b b' c c' d d' x y z w = cc

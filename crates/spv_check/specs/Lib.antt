@@ -1,3 +1,4 @@
 pub mod FactsTold
+pub mod Modules
 pub mod TypingIn
 pub mod Uses

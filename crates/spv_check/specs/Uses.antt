@@ -1,8 +1,10 @@
 -- What the pass over the places of a module is given and keeps.
 use Rattle.std.specs.Prelude.{◌≡◌, ℕ, ◌<◌, Bool, not, List, length, Option, None, slice_index_or}
+use Rattle.std.specs.Option.{option_map, option_or}
 use Rattle.spirv_model.specs.declared.module.Inst.{Inst}
 use Rattle.check_model.specs.Intervals.{Interval}
 use Rattle.check_model.specs.declared.fault.CheckFault.{CheckFault}
+use Rattle.check_model.specs.declared.fault.CheckFault.TheVariants as fault
 use Rattle.check_model.specs.OperandTypes.{operands_fit}
 use Rattle.check_model.specs.Storage.{is_wrong_storage}
 use Rattle.check_model.specs.Validity.{use_fault_of}
@@ -18,3 +20,8 @@ AreHidden intervals insts hidden = (place : ℕ) → place < length insts → sl
 abbrev pub use_fault_with : ModuleIds → Bool → Inst → ℕ → Option ℕ → Option CheckFault
 use_fault_with known inside inst place hidden =
     use_fault_of place hidden (not (operands_fit (typing_in known) inst)) (is_wrong_storage (typing_in known) inside inst)
+
+-- the first fault of entry points, uses, inputs that aren't Flat and locations
+abbrev pub first_fault_of : Option ℕ → Option CheckFault → Option ℕ → Option ℕ → Option CheckFault
+first_fault_of count used smooth twice =
+    option_or (option_map fault.EntryCount count) (option_or used (option_or (option_map fault.NotFlat smooth) (option_map fault.LocationTwice twice)))

@@ -6,6 +6,8 @@ mod composite_operands;
 mod entry_points;
 mod interfaces;
 mod memory_operands;
+mod module;
+mod list_faults;
 mod operand_types;
 mod scalar_operands;
 mod storage;
@@ -13,6 +15,7 @@ mod typing;
 mod uses;
 
 pub use check_model::{CheckFault, Stage};
+pub use module::Module;
 pub use operand_types::operands_fit;
 pub use storage::is_wrong_storage;
 pub use typing::ModuleIds;
