@@ -1,3 +1,4 @@
+pub mod Ascending
 pub mod EntryCounts
 pub mod InterfacesTold
 pub mod Typings

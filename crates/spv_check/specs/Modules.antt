@@ -1,9 +1,10 @@
 -- A valid module, as it is kept.
-use Rattle.std.specs.Prelude.{◌≡◌, ℕ, List}
+use Rattle.std.specs.Prelude.{◌≡◌, ℕ, Bool, if◌then◌else◌, List}
 use Rattle.spirv_model.specs.declared.module.Inst.{Inst}
 use Rattle.spirv_model.specs.declared.module.Words.{Words}
 use Rattle.state_model.specs.declared.iface.Iface.{Iface}
 use Rattle.check_model.specs.declared.stage.Stage.{Stage}
+use Rattle.check_model.specs.declared.stage.Stage.TheVariants.{Vertex, Fragment}
 use Rattle.check_model.specs.Interfaces.{AreSpecIds, inputs_of, outputs_of, stage_of}
 use Rattle.check_model.specs.Validity.{IsValidList}
 use Rattle.spv_tree.specs.declared.tree.Body.{Body}
@@ -20,3 +21,11 @@ pub record IsModule (words : Words) (body : Body) (ids : Ids) (stage : Stage) (i
   pub inputs_are : inputs ≡ inputs_of words.insts
   pub outputs_are : outputs ≡ outputs_of words.insts
   pub declares : AreSpecIds words.insts spec_ids
+
+abbrev pub stage_by : Bool → Stage
+stage_by vertex = if vertex then Vertex else Fragment
+
+-- the module is that of the words, which are valid
+pub record IsMadeOf (words made : Words) : Type 0 where
+  pub same : made ≡ words
+  pub valid : IsValidList words

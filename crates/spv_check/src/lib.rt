@@ -2,6 +2,7 @@
 //! Rules"), and else the first fault is answered.
 #![tactic(auto)]
 
+mod check;
 mod composite_operands;
 mod entry_points;
 mod interfaces;
@@ -10,6 +11,7 @@ mod module;
 mod list_faults;
 mod operand_types;
 mod scalar_operands;
+mod spec_ids;
 mod storage;
 mod typing;
 mod uses;

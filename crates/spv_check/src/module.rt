@@ -1,11 +1,14 @@
 ghost use Rattle.std.specs.Prelude.{◌≡◌};
 ghost use Rattle.spirv_model.specs.declared.module.Words.{Words};
-ghost use Rattle.check_model.specs.Interfaces.{AreSpecIds, inputs_of, outputs_of, stage_of};
+ghost use Rattle.check_model.specs.Interfaces as interfaces;
+ghost use Rattle.check_model.specs.Interfaces.{AreSpecIds, stage_of};
 ghost use Rattle.check_model.specs.Validity.{IsValidList};
 ghost use Rattle.spv_tree.specs.Trees.{IsTreeOf};
 ghost use Rattle.spv_types.specs.Answers.{AreIdsOf};
-ghost use Rattle.spv_check.specs.Modules.{IsModule};
+ghost use Rattle.valid_model.specs.ModuleFacts.{facts_of, is_vertex};
+ghost use Rattle.spv_check.specs.Modules.{IsModule, stage_by};
 
+use crate::list_faults::{inputs_of, outputs_of};
 use check_model::Stage;
 use spirv_model::{Inst, Items, Words};
 use spv_tree::Body;
@@ -29,7 +32,7 @@ pub struct Module {
 impl Model for Module {
     ghost Value = { Words };
 
-    ghost view = { λ module. module.words };
+    ghost view = { λ m. m.words };
 
     ghost invariant = { λ m. IsModule m.words m.body m.ids m.stage m.inputs m.outputs m.spec_ids };
 }
@@ -74,14 +77,14 @@ impl Module {
 
     /// Its inputs by location.
     pub fn inputs(&self) -> &Iface
-        ensures { result.now ≡ inputs_of self.now.insts }
+        ensures { result.now ≡ interfaces.inputs_of self.now.insts }
     {
         &self.inputs
     }
 
     /// Its outputs by location.
     pub fn outputs(&self) -> &Iface
-        ensures { result.now ≡ outputs_of self.now.insts }
+        ensures { result.now ≡ interfaces.outputs_of self.now.insts }
     {
         &self.outputs
     }
@@ -91,5 +94,44 @@ impl Module {
         ensures { AreSpecIds self.now.insts result.now }
     {
         self.spec_ids.as_slice()
+    }
+}
+
+/// The module with these parts, which are its own.
+pub fn module_with(
+    words: Words,
+    body: Body,
+    ids: Ids,
+    vertex: bool,
+    spec_ids: Items<u32>,
+) -> Module
+    requires valid { IsValidList words }
+    requires tree { IsTreeOf words.insts body }
+    requires ids { AreIdsOf words ids }
+    requires vertex { vertex ≡ is_vertex (facts_of words.insts) }
+    requires declares { AreSpecIds words.insts spec_ids }
+    ensures { result ≡ words }
+{
+    let stage = stage_by(vertex);
+    let inputs = inputs_of(&words, &ids);
+    let outputs = outputs_of(&words, &ids);
+    Module {
+        words,
+        body,
+        ids,
+        stage,
+        inputs,
+        outputs,
+        spec_ids,
+    }
+}
+
+fn stage_by(vertex: bool) -> Stage
+    ensures { result ≡ stage_by vertex }
+{
+    if vertex {
+        Stage::Vertex
+    } else {
+        Stage::Fragment
     }
 }
