@@ -1,11 +1,11 @@
 -- One entry point is the first one.
-use Rattle.std.proofs.Common.{◌≡◌, ℕ, suc, ◌+◌, Bool, true, false, ◌&&◌, ◌||◌, ◌==◌, if◌then◌else◌, List, [], ◌∷◌, length, filter, Option, None, Some, refl, ap, sym, ◌∙◌, arith}
+use Rattle.std.proofs.Common.{◌≡◌, ℕ, Bool, true, false, if◌then◌else◌, List, [], ◌∷◌, length, filter, Option, None, Some, refl, ap, sym, ◌∙◌, arith}
 use Rattle.std.specs.List.{find}
 use Rattle.std.specs.Option.{option_map}
 use Rattle.spirv_model.specs.declared.module.Inst.{Inst}
 use Rattle.spirv_model.specs.Operands.{word_at}
 use Rattle.valid_model.specs.ModuleFacts.{is_entry, model_of}
-use Rattle.check_model.specs.EntryPoints.{is_one_entry, is_shader_entry, entry_points, function_id, bad_entry_count}
+use Rattle.check_model.specs.EntryPoints.{is_one_entry, entry_points, function_id, bad_entry_count}
 use Rattle.spv_check.specs.FactsTold.{is_shader_entry_in}
 
 -- the first of what a filter keeps

@@ -1,19 +1,18 @@
 -- What is told of interfaces is what the words say.
-use Rattle.std.proofs.Common.{◌≡◌, ℕ, ◌||◌, List, map, Option, None, Some, refl, ap, sym, ◌∙◌}
+use Rattle.std.proofs.Common.{◌≡◌, ℕ, List, map, Option, None, Some, refl, ap, ◌∙◌}
 use Rattle.std.specs.List.{range_with_len, find}
 use Rattle.std.specs.Option.{option_map, option_and_then}
 use Rattle.limits.specs.declared.TheConstants.{LOCATIONS}
 use Rattle.spirv_model.specs.declared.module.Inst.{Inst}
 use Rattle.spirv_model.specs.declared.module.Words.{Words}
 use Rattle.spirv_model.specs.Operands.{word_at}
-use Rattle.spirv_model.specs.declared.storage_class.TheConstants.{INPUT, OUTPUT}
 use Rattle.state_model.specs.declared.iface.Slot.{Slot}
 use Rattle.state_model.specs.declared.iface.Iface.{Iface}
 use Rattle.valid_model.specs.DecorationWords.{decoration_of}
 use Rattle.valid_model.specs.Meanings.{meaning}
 use Rattle.valid_model.specs.Shapes.{held_type}
 use Rattle.valid_model.specs.ModuleFacts.{ModuleFacts, facts_of}
-use Rattle.check_model.specs.Interfaces.{lowest_location, has_smooth_input, are_two, location_twice, is_variable_at, slot_at, slot_in, slot_of_variable, interface}
+use Rattle.check_model.specs.Interfaces.{lowest_location, has_smooth_input, location_twice, is_variable_at, slot_at, slot_in, slot_of_variable, interface}
 use Rattle.spv_types.specs.declared.ids.Ids.{Ids}
 use Rattle.spv_types.specs.Answers.{AreIdsOf}
 use Rattle.spv_check.specs.FactsTold.{facts_by, facts_told, shared_location, slot_told, interface_told}

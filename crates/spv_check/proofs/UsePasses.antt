@@ -1,5 +1,5 @@
 -- One more place, as the pass over uses meets it.
-use Rattle.std.proofs.Common.{◌≡◌, ℕ, zero, suc, ◌+◌, ◌-◌, ◌<◌, ◌≤◌, Bool, true, false, not, ◌||◌, List, length, take, get_or, Option, None, Some, refl, ap, sym, ◌∙◌, ⊎_elim, arith}
+use Rattle.std.proofs.Common.{◌≡◌, ℕ, zero, suc, ◌+◌, ◌<◌, Bool, not, ◌||◌, List, length, take, Option, None, Some, ap, sym, ◌∙◌, ⊎_elim, arith}
 use Rattle.std.specs.Prelude.{slice_index_or}
 use Rattle.std.specs.List.{list_any}
 use Rattle.std.specs.Option.{option_or}
@@ -10,11 +10,10 @@ use Rattle.spirv_model.specs.declared.module.Words.{Words}
 use Rattle.valid_model.specs.Definitions.{inst_at, no_instruction}
 use Rattle.check_model.specs.declared.fault.CheckFault.{CheckFault}
 use Rattle.check_model.specs.Intervals.{Interval}
-use Rattle.check_model.specs.Visibility.{not_visible}
 use Rattle.check_model.specs.EntryPoints.{is_op_function}
 use Rattle.check_model.specs.OperandTypes.{operands_fit}
 use Rattle.check_model.specs.Storage.{is_in_function, is_wrong_storage}
-use Rattle.check_model.specs.Validity.{has_bad_operands, has_wrong_storage, use_fault_of, use_fault_at, first_use_fault, use_fault}
+use Rattle.check_model.specs.Validity.{use_fault_of, use_fault_at, first_use_fault}
 use Rattle.spv_check.specs.declared.typing.ModuleIds.{ModuleIds}
 use Rattle.spv_check.specs.TypingIn.{typing_in}
 use Rattle.spv_check.specs.Uses.{AreHidden, first_fault_of}

@@ -1,6 +1,5 @@
 -- A valid module, as it is kept.
 use Rattle.std.specs.Prelude.{◌≡◌, ℕ, Bool, if◌then◌else◌, List}
-use Rattle.spirv_model.specs.declared.module.Inst.{Inst}
 use Rattle.spirv_model.specs.declared.module.Words.{Words}
 use Rattle.state_model.specs.declared.iface.Iface.{Iface}
 use Rattle.check_model.specs.declared.stage.Stage.{Stage}

@@ -1,5 +1,4 @@
 -- What the ids of a module tell, as what operands are judged by.
-use Rattle.std.specs.Prelude.{ℕ}
 use Rattle.std.specs.Option.{option_and_then}
 use Rattle.valid_model.specs.Definitions.{inst_at}
 use Rattle.check_model.specs.Typing.{Typing, constant_in}

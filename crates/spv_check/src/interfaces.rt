@@ -67,7 +67,10 @@ fn slot_in(meaning: &Meaning) -> Option<Slot>
     ensures { result ≡ spec.slot_in meaning.now }
 {
     match meaning {
-        Meaning::Shape(Shape::Int { signed }) => Some(Slot { comps: 1, signed: *signed }),
+        Meaning::Shape(Shape::Int { signed }) => Some(Slot {
+            comps: 1,
+            signed: *signed,
+        }),
         Meaning::Shape(Shape::IntVector { comps, signed }) => Some(Slot {
             comps: *comps,
             signed: *signed,

@@ -79,7 +79,12 @@ fn first_fault_of(
 }
 
 /// The first fault of entry points, uses and interfaces, where of each place the first id that isn't visible is known.
-pub fn list_fault(words: &Words, ids: &Ids, vertex: bool, hidden: &[Option<u32>]) -> Option<CheckFault>
+pub fn list_fault(
+    words: &Words,
+    ids: &Ids,
+    vertex: bool,
+    hidden: &[Option<u32>],
+) -> Option<CheckFault>
     requires few { length words.now.insts < 2 ^ 32 }
     requires ids { AreIdsOf words.now ids.now }
     requires vertex { vertex ≡ is_vertex (facts_of words.now.insts) }

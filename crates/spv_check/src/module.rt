@@ -98,13 +98,7 @@ impl Module {
 }
 
 /// The module with these parts, which are its own.
-pub fn module_with(
-    words: Words,
-    body: Body,
-    ids: Ids,
-    vertex: bool,
-    spec_ids: Items<u32>,
-) -> Module
+pub fn module_with(words: Words, body: Body, ids: Ids, vertex: bool, spec_ids: Items<u32>) -> Module
     requires valid { IsValidList words }
     requires tree { IsTreeOf words.insts body }
     requires ids { AreIdsOf words ids }

@@ -60,7 +60,12 @@ fn is_behind_function(in_function: bool, inst: &Inst) -> bool
 }
 
 /// The first fault of uses, where of each place the first id that isn't visible is known.
-pub fn use_fault(words: &Words, ids: &Ids, vertex: bool, hidden: &[Option<u32>]) -> Option<CheckFault>
+pub fn use_fault(
+    words: &Words,
+    ids: &Ids,
+    vertex: bool,
+    hidden: &[Option<u32>],
+) -> Option<CheckFault>
     requires few { length words.now.insts < 2 ^ 32 }
     requires ids { AreIdsOf words.now ids.now }
     requires vertex { vertex ≡ is_vertex (facts_of words.now.insts) }

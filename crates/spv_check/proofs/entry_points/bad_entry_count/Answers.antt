@@ -1,4 +1,4 @@
-use Rattle.std.proofs.Common.{◌≡◌, refl, sym, ◌∙◌, arith}
+use Rattle.std.proofs.Common.{refl, sym, ◌∙◌, arith}
 use Rattle.std.proofs.lemmas.Grind.{common_steps}
 use Rattle.spv_check.proofs.EntryCounts.{counted, not_shader, other_count, by_words_told}
 use Rattle.spv_check.proofs.entry_points.bad_entry_count.Goals as goal

@@ -1,5 +1,4 @@
-use Rattle.std.proofs.Common.{◌≡◌, ap, ◌∙◌}
-use Rattle.spirv_model.specs.declared.module.Inst.{Inst}
+use Rattle.std.proofs.Common.{ap, ◌∙◌}
 use Rattle.check_model.specs.EntryPoints.{bad_entry_count}
 use Rattle.check_model.specs.Validity.{list_fault}
 use Rattle.spv_check.proofs.UsePasses.{same_first}

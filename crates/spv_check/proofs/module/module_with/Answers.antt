@@ -1,4 +1,4 @@
-use Rattle.std.proofs.Common.{◌≡◌, refl, sym, ap, ◌∙◌}
+use Rattle.std.proofs.Common.{ap, ◌∙◌}
 use Rattle.check_model.specs.Interfaces.{stage_of}
 use Rattle.spv_check.specs.Modules.{stage_by}
 use Rattle.spv_check.proofs.module.module_with.Goals as goal

@@ -1,4 +1,4 @@
-use Rattle.std.proofs.Common.{◌≡◌, ◌<◌, List, length, None, refl, ap, sym, ◌∙◌, arith}
+use Rattle.std.proofs.Common.{◌≡◌, ◌<◌, List, length, refl, ap, sym, ◌∙◌, arith}
 use Rattle.spirv_model.specs.declared.module.Inst.{Inst}
 use Rattle.valid_model.specs.Definitions.{inst_at}
 use Rattle.check_model.specs.Storage.{is_in_function}
