@@ -1,5 +1,5 @@
 -- All derivations of a list have the same intervals: they are those of its code, from its first place.
-use Rattle.std.proofs.Common.{◌≡◌, ℕ, ◌+◌, ◌≤◌, List, [], ◌∷◌, ◌++◌, length, Option, refl, ap, sym, ◌∙◌, arith, length-append}
+use Rattle.std.proofs.Common.{◌≡◌, ℕ, ◌+◌, List, [], ◌++◌, length, Option, refl, ap, sym, ◌∙◌, arith, length-append}
 use Rattle.spirv_model.specs.declared.module.Inst.{Inst}
 use Rattle.body_model.specs.declared.block_end.BlockEnd.TheVariants.{GoesOn as WayOn, Selects as WaySelects, Picks as WayPicks, Loops as WayLoops}
 use Rattle.body_model.specs.Scope.{Scope}
@@ -10,7 +10,7 @@ use Rattle.body_model.proofs.Ends.{Between}
 use Rattle.body_model.proofs.Listings.{listed}
 use Rattle.body_model.proofs.Slices.{slice_long}
 use Rattle.body_model.proofs.OneFunction.{one_function}
-use Rattle.check_model.specs.Intervals.{Interval, interval, around, inside, of_arm, of_arms, intervals_of}
+use Rattle.check_model.specs.Intervals.{Interval, around, inside, of_arm, of_arms, intervals_of}
 
 -- ---- the intervals of code that stands at a place
 

@@ -1,6 +1,6 @@
 -- Operands of loads, stores and chains, and storage classes: the fault of the module.
-use Rattle.std.proofs.Common.{◌≡◌, ℕ, ◌+◌, List, [], ◌∷◌, ◌++◌, length, refl}
-use Rattle.std.specs.Prelude.{None, Some, Option}
+use Rattle.std.proofs.Common.{◌≡◌, List, [], ◌∷◌, ◌++◌, refl}
+use Rattle.std.specs.Prelude.{None, Some}
 use Rattle.spirv_model.specs.declared.module.Inst.{Inst}
 use Rattle.spirv_model.specs.declared.op.TheConstants as op
 use Rattle.spirv_model.specs.Operands.{entry_of, class_of, kinds, result}
@@ -9,7 +9,6 @@ use Rattle.valid_model.specs.DecorationWords.{decoration_of}
 use Rattle.valid_model.specs.Types.{type_of}
 use Rattle.valid_model.specs.Meanings.{known_of, known_after, known_by}
 use Rattle.valid_model.specs.ModuleFacts.{model_of, facts_of}
-use Rattle.check_model.specs.declared.fault.CheckFault.{CheckFault}
 use Rattle.check_model.specs.declared.fault.CheckFault.TheVariants.{NotVisible, OperandType, WrongStorage}
 use Rattle.check_model.specs.Intervals.{is_visible}
 use Rattle.check_model.specs.Branches.{blocks_of, predecessors, block_end_of}

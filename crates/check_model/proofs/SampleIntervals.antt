@@ -1,16 +1,16 @@
 -- Derivations of sample modules, and the intervals in them.
-use Rattle.std.proofs.Common.{◌≡◌, ℕ, ◌==◌, Bool, true, false, List, [], ◌∷◌, take, refl, arith}
-use Rattle.std.specs.Prelude.{None, Some, Option}
+use Rattle.std.proofs.Common.{◌≡◌, ℕ, ◌==◌, true, false, [], ◌∷◌, take, refl, arith}
+use Rattle.std.specs.Prelude.{None, Some}
 use Rattle.std.proofs.lemmas.Bool.Decides.{nat_tests}
 use Rattle.std.proofs.lemmas.List.Sums.{AllPass-from_list_all}
 use Rattle.spirv_model.specs.declared.module.Inst.{Inst}
 use Rattle.spirv_model.specs.Operands.{entry_of, class_of}
-use Rattle.body_model.specs.declared.scope.End.TheVariants.{Merge, Leave, Break, Continue, Back, Test, Return, Kill}
+use Rattle.body_model.specs.declared.scope.End.TheVariants.{Merge, Leave, Continue, Back, Test, Return}
 use Rattle.body_model.specs.Classes.{is_module_level}
 use Rattle.body_model.specs.Blocks.{block_end, last_part}
 use Rattle.body_model.specs.Due.{missing}
 use Rattle.body_model.specs.Switches.{switch_words, labels_of}
-use Rattle.body_model.specs.Grammar.{Sequence, ends, goes_on, selects, picks, loops, Arm, straight, through, Arms, no_arm, arm_behind, Derives}
+use Rattle.body_model.specs.Grammar.{ends, goes_on, selects, picks, loops, straight, through, no_arm, arm_behind, Derives}
 use Rattle.body_model.proofs.SampleModules.{f1, f3, f5, f7, f8, f10}
 use Rattle.check_model.specs.Intervals.{interval, intervals_of}
 

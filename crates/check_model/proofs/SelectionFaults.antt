@@ -12,7 +12,7 @@ use Rattle.valid_model.specs.Meanings.{known_of, known_after, known_by}
 use Rattle.valid_model.specs.ModuleFacts.{model_of, facts_of}
 use Rattle.check_model.specs.declared.fault.CheckFault.{CheckFault}
 use Rattle.check_model.specs.declared.fault.CheckFault.TheVariants.{NotVisible, OperandType}
-use Rattle.check_model.specs.Intervals.{Interval, interval, is_visible}
+use Rattle.check_model.specs.Intervals.{interval, is_visible}
 use Rattle.check_model.specs.Branches.{blocks_of, predecessors, block_end_of}
 use Rattle.check_model.specs.Visibility.{used_ids, names_predecessors, uses_at, not_visible}
 use Rattle.check_model.specs.Typing.{constant_word, typing_of}

@@ -9,7 +9,6 @@ use Rattle.valid_model.specs.Types.{type_of}
 use Rattle.valid_model.specs.Meanings.{known_of, known_after, known_by}
 use Rattle.valid_model.specs.ModuleFacts.{model_of, facts_of}
 use Rattle.body_model.proofs.SampleModules.{v2, f1, f3, f5, f7, f8, f10}
-use Rattle.state_model.specs.declared.iface.Iface.{Iface}
 use Rattle.check_model.specs.declared.stage.Stage.TheVariants.{Vertex, Fragment}
 use Rattle.check_model.specs.Intervals.{interval, is_visible}
 use Rattle.check_model.specs.Branches.{blocks_of, predecessors, block_end_of}
