@@ -78,9 +78,7 @@ fn part_of(typing: &ModuleIds, part: Part, index: u32) -> Option<Part>
 }
 
 fn part_from(typing: &ModuleIds, reached: Option<Part>, index: u32) -> Option<Part>
-    ensures {
-        result ≡ option_and_then (λ whole. spec.part_of (typing_in typing.now) whole index) reached
-    }
+    ensures { result ≡ option_and_then (λ whole. spec.part_of (typing_in typing.now) whole index) reached }
 {
     match reached {
         Some(whole) => part_of(typing, whole, index),
@@ -136,10 +134,8 @@ fn whole_of(typing: &ModuleIds, id: u32) -> Option<Part>
 
 /// Whether the part is of the type of this id.
 fn is_of(typing: &ModuleIds, id: u32, part: Option<Part>) -> bool
-    ensures {
-        let known = typing_in typing.now in
-        result ≡ spec.is_of known (type_id (known.meaning id)) part
-    }
+    ensures { let known = typing_in typing.now in
+        result ≡ spec.is_of known (type_id (known.meaning id)) part }
 {
     match type_id(typing.ids.at(id)) {
         Some(ty) => is_of_type(typing, ty, part),
@@ -155,26 +151,16 @@ fn extract_fits(typing: &ModuleIds, ty: u32, composite: u32, indices: &[u32]) ->
 }
 
 fn reaches(typing: &ModuleIds, object: u32, composite: u32, indices: &[u32]) -> bool
-    ensures {
-        let known = typing_in typing.now in
+    ensures { let known = typing_in typing.now in
         let reached = spec.part_along known (spec.whole_of known composite) indices.now in
-        result ≡ spec.is_of known (type_id (known.meaning object)) reached
-    }
+        result ≡ spec.is_of known (type_id (known.meaning object)) reached }
 {
     let reached = part_along(typing, whole_of(typing, composite), indices);
     is_of(typing, object, reached)
 }
 
-fn insert_fits(
-    typing: &ModuleIds,
-    ty: u32,
-    object: u32,
-    composite: u32,
-    indices: &[u32],
-) -> bool
-    ensures {
-        result ≡ spec.insert_fits (typing_in typing.now) ty object composite indices.now
-    }
+fn insert_fits(typing: &ModuleIds, ty: u32, object: u32, composite: u32, indices: &[u32]) -> bool
+    ensures { result ≡ spec.insert_fits (typing_in typing.now) ty object composite indices.now }
 {
     has_type(typing, ty, composite) && reaches(typing, object, composite, indices)
 }
@@ -200,9 +186,7 @@ fn count_in(of: Option<Components>) -> u8
 
 /// Whether at least two scalars or vectors of this component have so many together.
 fn vector_parts_fit(typing: &ModuleIds, component: Component, count: u8, parts: &[u32]) -> bool
-    ensures {
-        result ≡ spec.vector_parts_fit (typing_in typing.now) component count parts.now
-    }
+    ensures { result ≡ spec.vector_parts_fit (typing_in typing.now) component count parts.now }
 {
     if parts.len() < 2 {
         return false;
@@ -229,10 +213,8 @@ fn are_of_type(typing: &ModuleIds, ty: u32, parts: &[u32]) -> bool
 }
 
 fn are_of_each_type(typing: &ModuleIds, types: &[u32], parts: &[u32]) -> bool
-    ensures {
-        let known = typing_in typing.now in
-        result ≡ list_all (λ pair. has_type known pair.0 pair.1) (zip types.now parts.now)
-    }
+    ensures { let known = typing_in typing.now in
+        result ≡ list_all (λ pair. has_type known pair.0 pair.1) (zip types.now parts.now) }
 {
     types
         .iter()
@@ -268,13 +250,9 @@ fn parts_fit(typing: &ModuleIds, meaning: &Meaning, parts: &[u32]) -> bool
 const NO_COMPONENT: u32 = 0xffff_ffff;
 
 fn are_literals(components: u32, literals: &[u32]) -> bool
-    ensures {
-        result ≡ list_all (λ literal. nat_lt literal components || (literal == spec.no_component)) literals.now
-    }
+    ensures { result ≡ list_all (λ literal. nat_lt literal components || (literal == spec.no_component)) literals.now }
 {
-    literals
-        .iter()
-        .all(|literal| *literal < components || *literal == NO_COMPONENT)
+    literals.iter().all(|literal| *literal < components || *literal == NO_COMPONENT)
 }
 
 fn is_vector_of(component: Component, of: Option<Components>) -> bool
@@ -307,9 +285,7 @@ fn shuffle_into(
 }
 
 fn shuffle_fits(typing: &ModuleIds, ty: u32, first: u32, second: u32, literals: &[u32]) -> bool
-    ensures {
-        result ≡ spec.shuffle_fits (typing_in typing.now) ty first second literals.now
-    }
+    ensures { result ≡ spec.shuffle_fits (typing_in typing.now) ty first second literals.now }
 {
     let of = components_in(typing.ids.at(ty));
     let first = components_of(typing, first);

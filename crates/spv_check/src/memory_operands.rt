@@ -80,9 +80,7 @@ fn chain_step(typing: &ModuleIds, index: u32, reached: Part) -> Option<Part>
 }
 
 fn chain_step_from(typing: &ModuleIds, index: u32, reached: Option<Part>) -> Option<Part>
-    ensures {
-        result ≡ option_and_then (spec.chain_step (typing_in typing.now) index) reached
-    }
+    ensures { result ≡ option_and_then (spec.chain_step (typing_in typing.now) index) reached }
 {
     match reached {
         Some(reached) => chain_step(typing, index, reached),
@@ -103,12 +101,7 @@ fn chain_along(typing: &ModuleIds, start: Option<Part>, indices: &[u32]) -> Opti
 }
 
 /// Whether the type is a pointer of this storage class to such a part.
-fn is_pointer_to(
-    typing: &ModuleIds,
-    meaning: &Meaning,
-    storage: u8,
-    reached: Option<Part>,
-) -> bool
+fn is_pointer_to(typing: &ModuleIds, meaning: &Meaning, storage: u8, reached: Option<Part>) -> bool
     ensures { result ≡ spec.is_pointer_to (typing_in typing.now) meaning.now storage reached }
 {
     match meaning {

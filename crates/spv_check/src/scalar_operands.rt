@@ -50,13 +50,16 @@ fn operand_fits(
     ty: u32,
     a: u32,
 ) -> bool
-    ensures {
-        let known = typing_in typing.now in
-        result ≡ spec.operand_fits truths_of_result truths_of_operand (known.meaning ty) (type_of known a)
-    }
+    ensures { let known = typing_in typing.now in
+        result ≡ spec.operand_fits truths_of_result truths_of_operand (known.meaning ty) (type_of known a) }
 {
     let made = components_in(typing.ids.at(ty));
-    match_in(truths_of_result, truths_of_operand, made, components_of(typing, a))
+    match_in(
+        truths_of_result,
+        truths_of_operand,
+        made,
+        components_of(typing, a),
+    )
 }
 
 fn both_fit(
@@ -67,21 +70,26 @@ fn both_fit(
     a: u32,
     b: u32,
 ) -> bool
-    ensures {
-        let known = typing_in typing.now in
-        result ≡ spec.both_fit truths_of_result truths_of_operand (known.meaning ty) (type_of known a) (type_of known b)
-    }
+    ensures { let known = typing_in typing.now in
+        result ≡ spec.both_fit truths_of_result truths_of_operand (known.meaning ty) (type_of known a) (type_of known b) }
 {
     let made = components_in(typing.ids.at(ty));
-    match_in(truths_of_result, truths_of_operand, made, components_of(typing, a))
-        && match_in(truths_of_result, truths_of_operand, made, components_of(typing, b))
+    match_in(
+        truths_of_result,
+        truths_of_operand,
+        made,
+        components_of(typing, a),
+    ) && match_in(
+        truths_of_result,
+        truths_of_operand,
+        made,
+        components_of(typing, b),
+    )
 }
 
 fn unary_fits(typing: &ModuleIds, class: ScalarClass, ty: u32, a: u32) -> bool
-    ensures {
-        let known = typing_in typing.now in
-        result ≡ spec.unary_fits class (known.meaning ty) (type_of known a)
-    }
+    ensures { let known = typing_in typing.now in
+        result ≡ spec.unary_fits class (known.meaning ty) (type_of known a) }
 {
     match class {
         ScalarClass::Bitcast | ScalarClass::WordFromWord => {
@@ -93,10 +101,8 @@ fn unary_fits(typing: &ModuleIds, class: ScalarClass, ty: u32, a: u32) -> bool
 }
 
 fn binary_fits(typing: &ModuleIds, class: ScalarClass, ty: u32, a: u32, b: u32) -> bool
-    ensures {
-        let known = typing_in typing.now in
-        result ≡ spec.binary_fits class (known.meaning ty) (type_of known a) (type_of known b)
-    }
+    ensures { let known = typing_in typing.now in
+        result ≡ spec.binary_fits class (known.meaning ty) (type_of known a) (type_of known b) }
 {
     match class {
         ScalarClass::WordFromWords => both_fit(typing, false, false, ty, a, b),
