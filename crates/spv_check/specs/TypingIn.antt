@@ -1,5 +1,5 @@
 -- What the ids of a module tell, as what operands are judged by.
-use Rattle.std.specs.Prelude.{◌≡◌, ℕ}
+use Rattle.std.specs.Prelude.{◌≡◌}
 use Rattle.std.specs.Option.{option_and_then}
 use Rattle.spirv_model.specs.declared.module.Words.{Words}
 use Rattle.valid_model.specs.Definitions.{inst_at}
