@@ -3,20 +3,12 @@ use Rattle.std.proofs.Common.{◌≡◌, ℕ, not, sym, ap}
 use Rattle.std.specs.Option.{option_and_then}
 use Rattle.spirv_model.specs.declared.module.Words.{Words}
 use Rattle.valid_model.specs.Definitions.{inst_at}
-use Rattle.valid_model.specs.ModuleFacts.{is_vertex, facts_of}
 use Rattle.check_model.specs.Typing.{Typing, typing_of, constant_in, constant_word}
 use Rattle.check_model.specs.OperandTypes.{operands_fit}
 use Rattle.check_model.specs.Storage.{is_in_function, is_wrong_storage}
 use Rattle.check_model.specs.Validity.{has_bad_operands, has_wrong_storage}
-use Rattle.spv_types.specs.Answers.{AreIdsOf}
 use Rattle.spv_check.specs.declared.typing.ModuleIds.{ModuleIds}
-use Rattle.spv_check.specs.TypingIn.{typing_in}
-
--- these are the instructions of the words, their ids, and whether they are a vertex module
-pub record AreModuleIds (words : Words) (known : ModuleIds) : Type 0 where
-  pub insts : known.insts.now ≡ words.insts
-  pub ids : AreIdsOf words known.ids.now
-  pub vertex : known.vertex ≡ is_vertex (facts_of words.insts)
+use Rattle.spv_check.specs.TypingIn.{AreModuleIds, typing_in}
 
 pub typing_told : (words : Words) (known : ModuleIds) → AreModuleIds words known → typing_in known ≡ typing_of words.insts
 unfolding typing_of constant_word

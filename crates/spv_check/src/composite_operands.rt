@@ -78,7 +78,8 @@ fn part_of(typing: &ModuleIds, part: Part, index: u32) -> Option<Part>
 }
 
 fn part_from(typing: &ModuleIds, reached: Option<Part>, index: u32) -> Option<Part>
-    ensures { result ≡ option_and_then (λ whole. spec.part_of (typing_in typing.now) whole index) reached }
+    ensures { let known = typing_in typing.now in
+        result ≡ option_and_then (λ whole. spec.part_of known whole index) reached }
 {
     match reached {
         Some(whole) => part_of(typing, whole, index),
@@ -150,6 +151,7 @@ fn extract_fits(typing: &ModuleIds, ty: u32, composite: u32, indices: &[u32]) ->
     is_of_type(typing, ty, reached)
 }
 
+/// Whether indices lead in the composite to a part of the object's type.
 fn reaches(typing: &ModuleIds, object: u32, composite: u32, indices: &[u32]) -> bool
     ensures { let known = typing_in typing.now in
         let reached = spec.part_along known (spec.whole_of known composite) indices.now in
@@ -249,10 +251,14 @@ fn parts_fit(typing: &ModuleIds, meaning: &Meaning, parts: &[u32]) -> bool
 /// The literal of OpVectorShuffle that stands for no component.
 const NO_COMPONENT: u32 = 0xffff_ffff;
 
-fn are_literals(components: u32, literals: &[u32]) -> bool
-    ensures { result ≡ list_all (λ literal. nat_lt literal components || (literal == spec.no_component)) literals.now }
+/// Whether each literal numbers one of so many components, or stands for none.
+fn are_literals(total: u32, literals: &[u32]) -> bool
+    ensures { result ≡ list_all
+        (λ literal. nat_lt literal total || (literal == spec.no_component)) literals.now }
 {
-    literals.iter().all(|literal| *literal < components || *literal == NO_COMPONENT)
+    literals
+        .iter()
+        .all(|literal| *literal < total || *literal == NO_COMPONENT)
 }
 
 fn is_vector_of(component: Component, of: Option<Components>) -> bool

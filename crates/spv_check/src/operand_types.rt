@@ -47,7 +47,8 @@ fn value_fits(typing: &ModuleIds, ty: u32, pointer: bool, value: u32) -> bool
 
 /// Whether the values of a phi, each before the block that it comes from, have the phi's type and are no pointers.
 fn incoming_fit(typing: &ModuleIds, ty: u32, words: &[u32]) -> bool
-    ensures { result ≡ list_all (spec.incoming_fits (typing_in typing.now) ty) (incoming_in words.now) }
+    ensures { let known = typing_in typing.now in
+        result ≡ list_all (spec.incoming_fits known ty) (incoming_in words.now) }
 {
     let pointer = is_pointer(typing.ids.at(ty));
     let mut rest = words;

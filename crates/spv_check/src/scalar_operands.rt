@@ -27,64 +27,38 @@ fn are_so_many(truths: bool, count: u8, of: Option<Components>) -> bool
 
 /// Whether both are scalars or vectors with equal numbers of components, which are truth values or integers.
 fn match_in(
-    truths_of_result: bool,
-    truths_of_operand: bool,
+    of_truths: bool,
+    from_truths: bool,
     result_type: Option<Components>,
     operand: Option<Components>,
 ) -> bool
-    ensures { result ≡ spec.match_in truths_of_result truths_of_operand result_type operand }
+    ensures { result ≡ spec.match_in of_truths from_truths result_type operand }
 {
     match result_type {
         Some(of) => {
-            truths_of_result == is_truth(of.component)
-                && are_so_many(truths_of_operand, of.count, operand)
+            of_truths == is_truth(of.component) && are_so_many(from_truths, of.count, operand)
         }
         None => false,
     }
 }
 
-fn operand_fits(
-    typing: &ModuleIds,
-    truths_of_result: bool,
-    truths_of_operand: bool,
-    ty: u32,
-    a: u32,
-) -> bool
+/// Whether it is an operand of an operation of this kind, and this the type of its result.
+fn operand_fits(typing: &ModuleIds, of_truths: bool, from_truths: bool, ty: u32, a: u32) -> bool
     ensures { let known = typing_in typing.now in
-        result ≡ spec.operand_fits truths_of_result truths_of_operand (known.meaning ty) (type_of known a) }
+        result ≡ spec.operand_fits of_truths from_truths (known.meaning ty) (type_of known a) }
 {
     let made = components_in(typing.ids.at(ty));
-    match_in(
-        truths_of_result,
-        truths_of_operand,
-        made,
-        components_of(typing, a),
-    )
+    match_in(of_truths, from_truths, made, components_of(typing, a))
 }
 
-fn both_fit(
-    typing: &ModuleIds,
-    truths_of_result: bool,
-    truths_of_operand: bool,
-    ty: u32,
-    a: u32,
-    b: u32,
-) -> bool
-    ensures { let known = typing_in typing.now in
-        result ≡ spec.both_fit truths_of_result truths_of_operand (known.meaning ty) (type_of known a) (type_of known b) }
+/// Whether both are operands of an operation of this kind, and this the type of its result.
+fn both_fit(typing: &ModuleIds, of_truths: bool, from_truths: bool, ty: u32, a: u32, b: u32) -> bool
+    ensures { let known = typing_in typing.now in let made = known.meaning ty in
+        result ≡ spec.both_fit of_truths from_truths made (type_of known a) (type_of known b) }
 {
     let made = components_in(typing.ids.at(ty));
-    match_in(
-        truths_of_result,
-        truths_of_operand,
-        made,
-        components_of(typing, a),
-    ) && match_in(
-        truths_of_result,
-        truths_of_operand,
-        made,
-        components_of(typing, b),
-    )
+    match_in(of_truths, from_truths, made, components_of(typing, a))
+        && match_in(of_truths, from_truths, made, components_of(typing, b))
 }
 
 fn unary_fits(typing: &ModuleIds, class: ScalarClass, ty: u32, a: u32) -> bool
