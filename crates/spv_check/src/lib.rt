@@ -3,3 +3,7 @@
 #![tactic(auto)]
 
 pub use check_model::{CheckFault, Stage};
+
+mod sequence_limits;
+
+pub use sequence_limits::limits_of;
