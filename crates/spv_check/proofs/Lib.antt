@@ -1,1 +1,2 @@
+mod BlockLists
 mod TreeLimits

@@ -2,8 +2,9 @@
 //! Rules"), and else the first fault is answered.
 #![tactic(auto)]
 
-pub use check_model::{CheckFault, Stage};
-
+mod branches;
 mod sequence_limits;
 
+pub use branches::{Branches, branches_of};
+pub use check_model::{CheckFault, Stage};
 pub use sequence_limits::limits_of;
