@@ -208,11 +208,11 @@ seen_more seen now before after target so is more = λ label.
     more label ∙ or_turned (label == target) (contains nat_cmp seen label) ∙ ap (λ (b : Bool). b || (label == target)) (so label)
     ∙ ap (λ (b : Bool). is_among label before || b) (same_turned label target) ∙ sym (among_push label target before) ∙ ap (is_among label) (sym is)
 
-new_one : (is_new has : Bool) → is_new ≡ not has → is_new ≡ true → has ≡ false
+pub new_one : (is_new has : Bool) → is_new ≡ not has → is_new ≡ true → has ≡ false
 new_one is_new false is so = refl
 new_one is_new true is so = absurd (let e : false ≡ true = sym is ∙ so in cc)
 
-old_one : (is_new has : Bool) → is_new ≡ not has → is_new ≡ false → has ≡ true
+pub old_one : (is_new has : Bool) → is_new ≡ not has → is_new ≡ false → has ≡ true
 old_one is_new true is so = refl
 old_one is_new false is so = absurd (let e : true ≡ false = sym is ∙ so in cc)
 

@@ -1,2 +1,3 @@
 mod BlockLists
+mod PhiUses
 mod TreeLimits

@@ -1,2 +1,3 @@
 pub mod Branches
 pub mod SequenceLimits
+pub mod Visibility

@@ -4,7 +4,9 @@
 
 mod branches;
 mod sequence_limits;
+mod visibility;
 
 pub use branches::{Branches, branches_of};
 pub use check_model::{CheckFault, Stage};
 pub use sequence_limits::limits_of;
+pub use visibility::phi_fault;
