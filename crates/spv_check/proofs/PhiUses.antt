@@ -2,7 +2,7 @@
 use Rattle.std.proofs.Common.{◌≡◌, ℕ, zero, suc, ◌+◌, ◌<◌, ◌≤◌, ◌==◌, Bool, true, false, not, ◌&&◌, ◌||◌, nat_lt, if◌then◌else◌, List, [], ◌∷◌, ◌++◌, length, map, take, drop, Option, None, Some, refl, ap, subst, sym, ◌∙◌, arith, get_or}
 use Rattle.std.specs.List.{find}
 use Rattle.std.specs.Option.{option_map, unwrap_or}
-use Rattle.std.proofs.lemmas.Bool.{eq-eqb, or_cases}
+use Rattle.std.proofs.lemmas.Bool.{eq-eqb, ne_eqb}
 use Rattle.std.proofs.lemmas.List.{take-append-drop}
 use Rattle.spirv_model.specs.declared.module.Inst.{Inst}
 use Rattle.spirv_model.specs.declared.op.TheConstants.{LABEL, PHI}
@@ -14,13 +14,13 @@ use Rattle.body_model.specs.Targets.{targets}
 use Rattle.valid_model.specs.Definitions.{definition, inst_at}
 use Rattle.check_model.specs.Intervals.{Interval, intervals_of}
 use Rattle.check_model.specs.Branches.{Block, blocks_from, blocks_of, predecessors, is_labelled, block_end_of, label_behind}
-use Rattle.check_model.specs.Visibility.{Use, use_at, Incoming, incoming_in, incoming_use, are_those, names_predecessors, uses_at, is_defined_for, is_visible_use, not_visible}
+use Rattle.check_model.specs.Visibility.{Use, use_at, Incoming, incoming_in, incoming_use, are_those, names_predecessors, used_ids, uses_at, is_defined_for, is_visible_use, not_visible}
 use Rattle.spv_types.specs.declared.ids.Ids.{Ids}
 use Rattle.spv_types.specs.Answers.{place_at}
 use Rattle.spv_tree.proofs.Among.{among_push}
 use Rattle.spv_check.specs.declared.branches.Branches.{Branches}
 use Rattle.spv_check.specs.Branches.{label_at, end_at, sources_at}
-use Rattle.spv_check.specs.Visibility.{TellsVisible, is_within, is_shown, first_hidden_value, phi_hidden, blocks_named}
+use Rattle.spv_check.specs.Visibility.{TellsVisible, is_within, is_shown, first_hidden_id, first_hidden_value, phi_hidden, blocks_named}
 use Rattle.spv_check.proofs.BlockLists.{same_turned}
 
 -- ---- places of terminators stand in the list
@@ -83,6 +83,31 @@ module _ (insts : List Inst) (ids : Ids) (limits : List ℕ) (branches : Branche
       (map (incoming_use insts place) (incoming_in words))
       (ap (λ (o : Option ℕ). is_shown ids limits (use_at (unwrap_or o place) value)) (known.blocks.ends block) ∙ shown (unwrap_or (block_end_of insts block) place) value (end_below insts block place within))
       (values place words within)
+
+  used : (place : ℕ) (words : List ℕ) → place < length insts
+      → first_hidden_id ids limits place words ≡ option_map (λ (u : Use). u.id) (find (λ u. not (is_visible_use (intervals_of d) insts u)) (map (use_at place) words))
+  used place [] within = refl
+  used place (id ∷ words) within =
+      met (is_shown ids limits (use_at place id)) (is_visible_use (intervals_of d) insts (use_at place id)) (use_at place id) (first_hidden_id ids limits place words) None (map (use_at place) words)
+      (shown place id within) (used place words within)
+
+  plain : (is_phi names : Bool) (result : ℕ) (other : Option ℕ) → is_phi ≡ false → other ≡ (if is_phi && not names then Some result else other)
+  plain false names result other is = refl
+  plain true names result other is = absurd (cc)
+
+  plain_uses : (is_phi : Bool) (uses others : List Use) → is_phi ≡ false → others ≡ (if is_phi then uses else others)
+  plain_uses false uses others is = refl
+  plain_uses true uses others is = absurd (cc)
+
+  pub no_phi : (place : ℕ) (inst : Inst) (words : List ℕ) → place < length insts → inst ≡ inst_at insts place → (inst.op ≡ PHI → ⊥) → words ≡ used_ids (inst_at insts place)
+      → first_hidden_id ids limits place words ≡ not_visible (intervals_of d) insts place
+  unfolding not_visible uses_at
+  no_phi place inst words within is isnt words_are =
+      let there = inst_at insts place in
+      let none = ne_eqb there.op PHI (λ phi. isnt (ap (λ (i : Inst). i.op) is ∙ phi)) in
+      used place words within ∙ ap (λ (l : List ℕ). option_map (λ (u : Use). u.id) (find (λ u. not (is_visible_use (intervals_of d) insts u)) (map (use_at place) l))) words_are
+      ∙ ap (λ (l : List Use). option_map (λ (u : Use). u.id) (find (λ u. not (is_visible_use (intervals_of d) insts u)) l)) (plain_uses (there.op == PHI) _ (map (use_at place) (used_ids there)) none)
+      ∙ plain (there.op == PHI) (names_predecessors insts place) (word_at 1 there) _ none
 
   named_are : (words : List ℕ) → blocks_named words ≡ map (λ (pair : Incoming). pair.block) (incoming_in words)
   named_are [] = refl

@@ -28,6 +28,11 @@ is_within limits at (Some place) = nat_lt place at && nat_lt at (slice_index lim
 abbrev pub is_shown : Ids → List ℕ → Use → Bool
 is_shown ids limits used = is_within limits used.place (place_at ids used.id)
 
+-- the first of the ids that isn't visible at a place
+abbrev pub first_hidden_id : Ids → List ℕ → ℕ → List ℕ → Option ℕ
+first_hidden_id ids limits place [] = None
+first_hidden_id ids limits place (id ∷ used) = if is_shown ids limits (use_at place id) then first_hidden_id ids limits place used else Some id
+
 -- of the words of a phi, values and blocks by turns, the first value that isn't visible at the end of its block
 abbrev pub first_hidden_value : Ids → List ℕ → Branches → ℕ → List ℕ → Option ℕ
 first_hidden_value ids limits branches place [] = None

@@ -9,4 +9,4 @@ mod visibility;
 pub use branches::{Branches, branches_of};
 pub use check_model::{CheckFault, Stage};
 pub use sequence_limits::limits_of;
-pub use visibility::phi_fault;
+pub use visibility::not_visible;

@@ -12,18 +12,54 @@ ghost use Rattle.check_model.specs.Intervals.{intervals_of};
 ghost use Rattle.check_model.specs.Visibility as spec;
 ghost use Rattle.check_model.specs.Visibility.{use_at};
 ghost use Rattle.spv_check.specs.Branches.{label_at, sources_at};
-ghost use Rattle.spv_check.specs.Visibility.{HasLabels, TellsVisible, blocks_named, first_hidden_value, is_shown, phi_hidden};
+ghost use Rattle.spv_check.specs.Visibility.{HasLabels, TellsVisible, blocks_named, first_hidden_id, first_hidden_value, is_shown, phi_hidden};
 
 use crate::branches::{Branches, inst_at, see};
-use spirv_model::Inst;
+use spirv_model::{Inst, op};
 use spv_tree::Memory;
 use spv_types::Ids;
 use std::alloc::Global;
 use std::collections::BTreeSet;
 
+/// The first id that the instruction at a place uses and that isn't visible; before it a phi that doesn't name the blocks
+/// that branch to its block, each once. The ids that it uses are given, in the order of its words, phis aside.
+pub fn not_visible(
+    alloc: Global,
+    insts: &[Inst],
+    ids: &Ids,
+    limits: &[u32],
+    branches: &Branches,
+    used: &[u32],
+    place: u32,
+) -> Result<Option<u32>, Memory>
+    requires known { TellsVisible insts.now ids.now limits.now branches.now }
+    requires within { place < length insts.now }
+    requires uses { used.now ≡ spec.used_ids (definitions.inst_at insts.now place) }
+    ensures { IfOk result (λ found. (derivation : Derives insts.now) → found ≡ spec.not_visible (intervals_of derivation) insts.now place) }
+{
+    if inst_at(insts, place as usize).op == op::PHI {
+        return phi_fault(alloc, insts, ids, limits, branches, place);
+    }
+    Ok(hidden_id(ids, limits, used, place))
+}
+
+/// The first of the ids that isn't visible at a place.
+fn hidden_id(ids: &Ids, limits: &[u32], used: &[u32], place: u32) -> Option<u32>
+    ensures { result ≡ first_hidden_id ids.now limits.now place used.now }
+{
+    let mut rest = used;
+    while let Some((id, after)) = rest.split_first() {
+        if !is_visible(ids, limits, *id, place) {
+            return Some(*id);
+        }
+        rest = after;
+    }
+    None
+}
+
 /// The fault of the phi at a place: its result where it doesn't name the blocks that branch to its block, each once, else
 /// the first id that it uses and that isn't visible: its type where it stands, and each value at the end of its block.
-pub fn phi_fault(
+fn phi_fault(
     alloc: Global,
     insts: &[Inst],
     ids: &Ids,
