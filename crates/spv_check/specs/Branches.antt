@@ -1,11 +1,14 @@
 -- Which blocks branch to which, as the code keeps it.
-use Rattle.std.specs.Prelude.{◌≡◌, ℕ, ◌<◌, Bool, ◌&&◌, ◌==◌, if◌then◌else◌, List, [], ◌∷◌, ◌++◌, take, length, slice_index, Option, None, Some}
+use Rattle.std.specs.Prelude.{◌≡◌, ℕ, ◌<◌, Bool, ◌&&◌, ◌||◌, ◌==◌, if◌then◌else◌, List, [], ◌∷◌, ◌++◌, take, length, slice_index, Option, None, Some}
 use Rattle.std.specs.Option.{option_or}
 use Rattle.std.specs.Ordering.{nat_cmp}
 use Rattle.std.specs.BTreeMap.{BTreeMap, get}
+use Rattle.std.specs.BTreeSet.{BTreeSet, contains}
 use Rattle.std.specs.Global.{Vec}
 use Rattle.spirv_model.specs.declared.module.Inst.{Inst}
 use Rattle.body_model.specs.Classes.{is_terminator}
+use Rattle.body_model.specs.Switches.{is_among}
+use Rattle.body_model.specs.Targets.{targets}
 use Rattle.check_model.specs.Branches.{predecessors, block_end_of, label_behind}
 use Rattle.spv_check.specs.declared.branches.Branches.{Branches}
 
@@ -71,3 +74,14 @@ AddsSource own leads old new = (label : ℕ) → list_at new label ≡ list_at o
 
 abbrev pub IsWithout : ℕ → Sources → Sources → Type 0
 IsWithout target old new = (label : ℕ) → list_at new label ≡ (if target == label then [] else list_at old label)
+
+abbrev pub stands_among : List ℕ → ℕ → Bool
+stands_among labels label = is_among label labels
+
+-- the instruction ends a block and names the label
+abbrev pub leads_to : Inst → ℕ → Bool
+leads_to inst label = is_terminator inst.op && is_among label (targets inst)
+
+-- the label is in the set from now on
+abbrev pub Sees : ℕ → BTreeSet ℕ → BTreeSet ℕ → Type 0
+Sees label old new = (other : ℕ) → contains nat_cmp new other ≡ ((other == label) || contains nat_cmp old other)

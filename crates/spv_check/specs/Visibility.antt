@@ -7,7 +7,9 @@ use Rattle.spirv_model.specs.declared.module.Inst.{Inst}
 use Rattle.spirv_model.specs.Operands.{word_at, words_from}
 use Rattle.body_model.specs.Switches.{is_among}
 use Rattle.valid_model.specs.Definitions.{definition}
-use Rattle.check_model.specs.Visibility.{Use, use_at}
+use Rattle.body_model.specs.Grammar.{Derives}
+use Rattle.check_model.specs.Intervals.{intervals_of}
+use Rattle.check_model.specs.Visibility.{Use, use_at, not_visible}
 use Rattle.spv_types.specs.declared.ids.Ids.{Ids}
 use Rattle.spv_types.specs.Answers.{place_at}
 use Rattle.spv_check.specs.declared.branches.Branches.{Branches}
@@ -19,6 +21,10 @@ pub record TellsVisible (insts : List Inst) (ids : Ids) (limits : List ℕ) (bra
   pub places : (id : ℕ) → place_at ids id ≡ definition insts id
   pub ends : AreLimits insts limits
   pub blocks : AreBranches insts branches
+
+-- the first id that the instruction at a place uses and that isn't visible, if there is one, whatever the derivation
+abbrev pub IsFirstHidden : List Inst → ℕ → Option ℕ → Type 0
+IsFirstHidden insts place found = (derivation : Derives insts) → found ≡ not_visible (intervals_of derivation) insts place
 
 -- what is defined at a place, if at all, stands before the use, which stands below its limit
 abbrev pub is_within : List ℕ → ℕ → Option ℕ → Bool

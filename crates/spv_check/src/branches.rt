@@ -9,7 +9,7 @@ ghost use Rattle.body_model.specs.Classes as classes;
 ghost use Rattle.body_model.specs.Switches.{is_among, targets_of};
 ghost use Rattle.body_model.specs.Targets.{targets};
 ghost use Rattle.valid_model.specs.Definitions as definitions;
-ghost use Rattle.spv_check.specs.Branches.{AddsEnd, AddsSource, AreBranches, AreEnds, AreLabels, AreSources, IsWithout, end_at, label_at, list_at, sources_at};
+ghost use Rattle.spv_check.specs.Branches.{AddsEnd, AddsSource, AreBranches, AreEnds, AreLabels, AreSources, IsWithout, Sees, end_at, label_at, leads_to, list_at, sources_at, stands_among};
 
 use spirv_model::class::Class;
 use spirv_model::{Inst, op};
@@ -155,7 +155,7 @@ fn block_sources(alloc: Global, insts: &[Inst], labels: &[u32]) -> Result<Source
 
 /// The block with this label ends with the instruction, if that is a terminator.
 fn add_sources(alloc: Global, sources: &mut Sources, label: u32, inst: &Inst) -> Result<(), Memory>
-    ensures { OnOk result (AddsSource label (λ target. classes.is_terminator inst.now.op && is_among target (targets inst.now)) sources.old sources.new) }
+    ensures { OnOk result (AddsSource label (leads_to inst.now) sources.old sources.new) }
 {
     if !is_terminator(inst.op) {
         return Ok(());
@@ -171,7 +171,7 @@ fn add_targets(
     label: u32,
     targets: &[u32],
 ) -> Result<(), Memory>
-    ensures { OnOk result (AddsSource label (λ target. is_among target targets.now) sources.old sources.new) }
+    ensures { OnOk result (AddsSource label (stands_among targets.now) sources.old sources.new) }
 {
     let mut seen = BTreeSet::new(alloc);
     for target in targets {
@@ -186,7 +186,7 @@ fn add_targets(
 /// Whether the label is new. It is seen from now on.
 pub fn see(seen: &mut BTreeSet<u32>, label: u32) -> Result<bool, Memory>
     ensures before { IfOk result (λ is_new. is_new ≡ not (contains nat_cmp seen.old label)) }
-    ensures now { OnOk result ((other : ℕ) → contains nat_cmp seen.new other ≡ ((other == label) || contains nat_cmp seen.old other)) }
+    ensures now { OnOk result (Sees label seen.old seen.new) }
 {
     let is_new = seen.insert(label)?;
     Ok(is_new)

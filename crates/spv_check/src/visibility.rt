@@ -5,14 +5,12 @@ ghost use Rattle.std.specs.Ordering.{nat_cmp};
 ghost use Rattle.std.specs.BTreeSet.{contains};
 ghost use Rattle.spirv_model.specs.declared.op.TheConstants.{PHI};
 ghost use Rattle.spirv_model.specs.Operands.{word_at, words_from};
-ghost use Rattle.body_model.specs.Grammar.{Derives};
 ghost use Rattle.body_model.specs.Switches as switches;
 ghost use Rattle.valid_model.specs.Definitions as definitions;
-ghost use Rattle.check_model.specs.Intervals.{intervals_of};
 ghost use Rattle.check_model.specs.Visibility as spec;
 ghost use Rattle.check_model.specs.Visibility.{use_at};
 ghost use Rattle.spv_check.specs.Branches.{label_at, sources_at};
-ghost use Rattle.spv_check.specs.Visibility.{HasLabels, TellsVisible, blocks_named, first_hidden_id, first_hidden_value, is_shown, phi_hidden};
+ghost use Rattle.spv_check.specs.Visibility.{HasLabels, IsFirstHidden, TellsVisible, blocks_named, first_hidden_id, first_hidden_value, is_shown, phi_hidden};
 
 use crate::branches::{Branches, inst_at, see};
 use spirv_model::{Inst, op};
@@ -35,7 +33,7 @@ pub fn not_visible(
     requires known { TellsVisible insts.now ids.now limits.now branches.now }
     requires within { place < length insts.now }
     requires uses { used.now ≡ spec.used_ids (definitions.inst_at insts.now place) }
-    ensures { IfOk result (λ found. (derivation : Derives insts.now) → found ≡ spec.not_visible (intervals_of derivation) insts.now place) }
+    ensures { IfOk result (IsFirstHidden insts.now place) }
 {
     if inst_at(insts, place as usize).op == op::PHI {
         return phi_fault(alloc, insts, ids, limits, branches, place);
@@ -70,7 +68,7 @@ fn phi_fault(
     requires known { TellsVisible insts.now ids.now limits.now branches.now }
     requires within { place < length insts.now }
     requires is_phi { (definitions.inst_at insts.now place).op ≡ PHI }
-    ensures { IfOk result (λ found. (derivation : Derives insts.now) → found ≡ spec.not_visible (intervals_of derivation) insts.now place) }
+    ensures { IfOk result (IsFirstHidden insts.now place) }
 {
     let inst = inst_at(insts, place as usize);
     let named = blocks_of(alloc, inst.words_from(2))?;
