@@ -8,3 +8,4 @@ mod ValidSamples
 pub mod CodeIntervals
 pub mod FaultLaws
 pub mod Frames
+pub mod NestedIntervals

@@ -3,3 +3,6 @@ pub mod EntryCounts
 pub mod InterfacesTold
 pub mod Typings
 pub mod UsePasses
+mod BlockLists
+mod PhiUses
+mod TreeLimits

@@ -2,6 +2,7 @@
 //! Rules"), and else the first fault is answered.
 #![tactic(auto)]
 
+mod branches;
 mod check;
 mod composite_operands;
 mod entry_points;
@@ -11,16 +12,15 @@ mod memory_operands;
 mod module;
 mod operand_types;
 mod scalar_operands;
+mod sequence_limits;
 mod spec_ids;
 mod storage;
 mod typing;
 mod uses;
+mod visibility;
 
 pub use check_model::{CheckFault, Stage};
 pub use module::Module;
-pub use operand_types::operands_fit;
-pub use storage::is_wrong_storage;
-pub use typing::ModuleIds;
 
 #[cfg(test)]
 mod operand_tests;
