@@ -10,8 +10,8 @@ use Rattle.valid_model.specs.declared.meaning.IdFacts.{IdFacts}
 use Rattle.valid_model.specs.declared.meaning.Meaning.TheVariants.{Absent}
 use Rattle.valid_model.specs.declared.type_fault.TypeFault.{TypeFault}
 use Rattle.valid_model.specs.declared.type_fault.TypeFault.TheVariants.{BadDecoration}
-use Rattle.valid_model.specs.Knowledge.{meaning_in}
-use Rattle.valid_model.specs.Meanings.{meaning}
+use Rattle.valid_model.specs.Knowledge.{meaning_in, size_in}
+use Rattle.valid_model.specs.Meanings.{known_by, meaning}
 use Rattle.valid_model.specs.Decorations.{bad_decoration}
 use Rattle.valid_model.specs.FirstFault.{first_fault, rule_fault, type_fault, type_fault_at, is_memory}
 use Rattle.spv_types.specs.declared.pass.Found.{Found}
@@ -94,3 +94,6 @@ absent_or (Some known) = refl
 
 pub meanings : (words : Words) (pass : FirstPass) → IsFirstPass words pass → (id : ℕ) → meaning_or Absent (in_table pass.table id) ≡ meaning words.insts id
 meanings words pass over id = absent_or (in_table pass.table id) ∙ ap meaning_in (over.known id)
+
+pub sizes : (words : Words) (pass : FirstPass) → IsFirstPass words pass → (id : ℕ) → size_in (in_table pass.table id) ≡ size_in (known_by words.insts id)
+sizes words pass over id = ap size_in (over.known id)

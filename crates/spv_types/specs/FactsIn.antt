@@ -2,7 +2,6 @@
 use Rattle.std.specs.Prelude.{ℕ, Bool}
 use Rattle.std.specs.Option.{option_map}
 use Rattle.std.specs.Ordering.{nat_cmp}
-use Rattle.std.specs.BTreeMap.{get}
 use Rattle.std.specs.BTreeSet.{contains}
 use Rattle.spirv_model.specs.declared.module.Inst.{Inst}
 use Rattle.valid_model.specs.declared.meaning.Meaning.{Meaning}
@@ -15,13 +14,13 @@ use Rattle.valid_model.specs.Shapes.{held_type}
 use Rattle.spv_types.specs.declared.module_facts.ModuleTables.{ModuleTables}
 use Rattle.spv_types.specs.declared.earlier_facts.EarlierTables.{EarlierTables}
 use Rattle.spv_types.specs.Pairs.{at_pair, has_pair}
-use Rattle.spv_types.specs.Tables.{in_table}
+use Rattle.spv_types.specs.Tables.{in_places, in_table}
 
 abbrev pub facts_in : ModuleTables → ModuleFacts
 facts_in whole = record {
   decoration = at_pair whole.decorations.now.words;
   offset = at_pair whole.decorations.now.offsets;
-  opcode = λ id. option_map (opcode_at whole.insts.now) (get nat_cmp whole.places.now id);
+  opcode = λ id. option_map (opcode_at whole.insts.now) (in_places whole.places.now id);
   model = whole.model;
   meaning = λ id. meaning_in (in_table whole.known.now id);
 }

@@ -1,7 +1,5 @@
 -- The first bad decoration.
 use Rattle.std.specs.Prelude.{◌≡◌, ℕ, ◌<◌, true, false, List, Option, None, Some}
-use Rattle.std.specs.Ordering.{nat_cmp}
-use Rattle.std.specs.BTreeMap.{get}
 use Rattle.spirv_model.specs.declared.module.Inst.{Inst}
 use Rattle.valid_model.specs.declared.type_fault.TypeFault.{TypeFault}
 use Rattle.valid_model.specs.declared.type_fault.TypeFault.TheVariants.{BadDecoration}
@@ -11,13 +9,13 @@ use Rattle.valid_model.specs.Decorations.{bad_decoration}
 use Rattle.valid_model.specs.ModuleFacts.{model_of}
 use Rattle.spv_types.specs.declared.module_facts.ModuleTables.{ModuleTables}
 use Rattle.spv_types.specs.Decorated.{AreDecorationsOf}
-use Rattle.spv_types.specs.Tables.{in_table}
+use Rattle.spv_types.specs.Tables.{in_places, in_table}
 
 -- the tables are those of the instructions
 pub record IsWhole (whole : ModuleTables) : Type 0 where
   pub decorations : AreDecorationsOf whole.insts.now whole.decorations.now
   pub known : (id : ℕ) → in_table whole.known.now id ≡ known_by whole.insts.now id
-  pub places : (id : ℕ) → get nat_cmp whole.places.now id ≡ definition whole.insts.now id
+  pub places : (id : ℕ) → in_places whole.places.now id ≡ definition whole.insts.now id
   pub model : whole.model ≡ model_of whole.insts.now
 
 -- decorations are bad at this place, and at none before

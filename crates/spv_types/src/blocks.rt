@@ -12,7 +12,7 @@ use valid_model::{IdFacts, Meaning, Shape};
 fn is_block_member(whole: &ModuleTables, ty: u32) -> bool
     ensures { result ≡ spec.is_block_member (facts_in whole.now) (id_meaning whole.now ty) }
 {
-    match whole.known.get(&ty) {
+    match whole.known.get(ty) {
         Some(
             IdFacts {
                 meaning: Meaning::Shape(Shape::Array { elem, .. }),
@@ -65,7 +65,7 @@ fn are_laid_out(whole: &ModuleTables, id: u32, types: &[u32]) -> bool
 fn is_block_type(whole: &ModuleTables, id: u32) -> bool
     ensures { result ≡ spec.is_block_type (facts_in whole.now) id (id_meaning whole.now id) }
 {
-    match whole.known.get(&id) {
+    match whole.known.get(id) {
         Some(
             IdFacts {
                 meaning: Meaning::Shape(Shape::Struct { members }),

@@ -29,7 +29,7 @@ fn is_built_in(whole: &ModuleTables, number: u32, class: u32, ty: u32) -> bool
 pub fn takes_built_in(whole: &ModuleTables, number: u32, id: u32) -> bool
     ensures { result ≡ spec.takes_built_in (facts_in whole.now) number (id_meaning whole.now id) }
 {
-    match whole.known.get(&id) {
+    match whole.known.get(id) {
         Some(
             IdFacts {
                 meaning: Meaning::Variable { ty, class },

@@ -11,7 +11,7 @@ use valid_model::{IdFacts, Meaning, Shape};
 fn is_integer_like(table: &Table, signed: bool, id: u32) -> bool
     ensures { result ≡ spec.is_integer_like signed (meaning_by table.now id) }
 {
-    match table.get(&id) {
+    match table.get(id) {
         Some(
             IdFacts {
                 meaning: Meaning::Shape(Shape::Int { signed: own }),
@@ -26,7 +26,7 @@ fn is_integer_like(table: &Table, signed: bool, id: u32) -> bool
 fn is_word_like(table: &Table, signed: bool, id: u32) -> bool
     ensures { result ≡ spec.is_integer_like signed (constant_type_by table.now id) }
 {
-    match table.get(&id) {
+    match table.get(id) {
         Some(
             IdFacts {
                 meaning: Meaning::Constant { ty },
@@ -88,7 +88,7 @@ fn are_parts(table: &Table, shape: &Shape, parts: &[u32]) -> bool
 fn composite_fits(table: &Table, ty: u32, parts: &[u32]) -> bool
     ensures { result ≡ spec.composite_constant_fits (in_table table.now) ty parts.now }
 {
-    match table.get(&ty) {
+    match table.get(ty) {
         Some(
             IdFacts {
                 meaning: Meaning::Shape(shape),

@@ -484,3 +484,15 @@ fn slots_offsets_and_strides(rt: HostRuntime) -> Result<(), Fail> {
     assert_eq!(rt; ids.stride(12), Some(4));
     Ok(())
 }
+
+#[test]
+fn an_id_is_flat_where_it_is_decorated_so(rt: HostRuntime) -> Result<(), Fail> {
+    let mut words = module(rt.alloc(), 12, ATTRIBUTE_VERTEX)?;
+    let flat: Listing = &[(op::DECORATE, &[6, decoration::FLAT])];
+    words.insts.append(module(rt.alloc(), 12, flat)?.insts)?;
+    let ids = answer(&rt, &words)??;
+    assert!(rt; ids.is_flat(6));
+    assert!(rt; !ids.is_flat(8));
+    assert!(rt; !ids.is_flat(12));
+    Ok(())
+}

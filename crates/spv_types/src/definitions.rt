@@ -3,13 +3,13 @@ ghost use Rattle.std.specs.Prelude.{◌≡◌, ◌<◌, ◌^◌, length, IfOk, O
 ghost use Rattle.valid_model.specs.Definitions as spec;
 ghost use Rattle.spv_types.specs.Tables.{AddsPlace, HasPlaces, IsResultTwice};
 
+use id_table::IdTable;
 use spirv_model::Inst;
 use spv_words::{ids_are_below, result};
 use std::alloc::{AllocError, Global};
-use std::collections::BTreeMap;
 
 /// The place of each id's definition.
-pub type Places = BTreeMap<u32, u32>;
+pub type Places = IdTable<u32>;
 
 /// The instruction at this place.
 pub fn inst_at(insts: &[Inst], place: usize) -> &Inst
@@ -19,12 +19,12 @@ pub fn inst_at(insts: &[Inst], place: usize) -> &Inst
     &insts[place]
 }
 
-/// The place of each id's definition.
-pub fn definitions(alloc: Global, insts: &[Inst]) -> Result<Places, AllocError>
+/// The place of each id's definition. The ids are expected below the bound.
+pub fn definitions(alloc: Global, bound: u32, insts: &[Inst]) -> Result<Places, AllocError>
     requires { length insts.now < 2 ^ 32 }
     ensures { IfOk result (λ places. HasPlaces places insts.now) }
 {
-    let mut places = BTreeMap::new(alloc);
+    let mut places = IdTable::new(alloc, bound, insts.len())?;
     for place in 0..insts.len() {
         define_place(&mut places, inst_at(insts, place), place as u32)?;
     }
@@ -37,7 +37,7 @@ fn define_place(places: &mut Places, inst: &Inst, place: u32) -> Result<(), Allo
     let Some(id) = result(inst) else {
         return Ok(());
     };
-    if !places.contains_key(&id) {
+    if !places.contains(id) {
         places.insert(id, place)?;
     }
     Ok(())
@@ -48,7 +48,7 @@ pub fn id_twice(places: &Places, inst: &Inst, place: usize) -> Option<u32>
     ensures { IsResultTwice places.now inst.now place result }
 {
     let id = result(inst)?;
-    let at = places.get(&id)?;
+    let at = places.get(id)?;
     if (*at as usize) < place {
         Some(id)
     } else {

@@ -1,11 +1,11 @@
 ghost use Rattle.std.specs.Prelude.{◌≡◌, ◌<◌, ◌^◌, length};
 ghost use Rattle.spirv_model.specs.declared.decoration.TheConstants.{SPEC_ID, LOCATION, BUILT_IN, ARRAY_STRIDE};
-ghost use Rattle.spv_types.specs.Answers.{AnswersIds, meaning_at, decoration_at, offset_at, slot_at};
+ghost use Rattle.spv_types.specs.Answers.{AnswersIds, decoration_at, is_flat_at, meaning_at, offset_at, place_at, size_at, slot_at};
 
 use crate::decoration_words::{Decorations, decorations_of};
-use crate::definitions::definitions;
+use crate::definitions::{Places, definitions};
 use crate::first_fault::first_fault;
-use crate::knowledge::Table;
+use crate::knowledge::{Table, size};
 use crate::pass::go_over;
 use spirv_model::{Words, decoration};
 use std::alloc::Global;
@@ -17,6 +17,7 @@ pub struct Ids {
     table: Table,
     /// What an id means that isn't in the table.
     absent: Meaning,
+    places: Places,
     decorations: Decorations,
 }
 
@@ -25,10 +26,24 @@ impl Ids {
     pub fn at(&self, id: u32) -> &Meaning
         ensures { result.now ≡ meaning_at self.now id }
     {
-        match self.table.get(&id) {
+        match self.table.get(id) {
             Some(IdFacts { meaning, .. }) => meaning,
             None => &self.absent,
         }
+    }
+
+    /// The place of the id's definition: of the first instruction of the list that has it as its result.
+    pub fn place(&self, id: u32) -> Option<u32>
+        ensures { result ≡ place_at self.now id }
+    {
+        self.places.get(id).copied()
+    }
+
+    /// The words of a type's values, 0 for types without values that are stored as data and for all other ids.
+    pub fn size(&self, id: u32) -> u32
+        ensures { result ≡ size_at self.now id }
+    {
+        size(&self.table, id)
     }
 
     /// The number that a specialization constant is set by.
@@ -78,6 +93,13 @@ impl Ids {
         self.decoration(id, decoration::ARRAY_STRIDE)
     }
 
+    /// Whether an input or an output isn't interpolated: it has the decoration Flat.
+    pub fn is_flat(&self, id: u32) -> bool
+        ensures { result ≡ is_flat_at self.now id }
+    {
+        self.decoration(id, decoration::FLAT).is_some()
+    }
+
     /// The word of a decoration of the id.
     fn decoration(&self, id: u32, decoration: u32) -> Option<u32>
         ensures { result ≡ decoration_at self.now id decoration }
@@ -99,7 +121,7 @@ pub fn ids_of(alloc: Global, words: &Words) -> Result<Ids, TypeFault>
     ensures { AnswersIds words.now result }
 {
     let insts = words.insts.as_slice();
-    let places = definitions(alloc, insts)?;
+    let places = definitions(alloc, words.bound, insts)?;
     let pass = go_over(alloc, words, &places)?;
     let decorations = decorations_of(alloc, insts)?;
     match first_fault(alloc, words, &places, &pass, &decorations)? {
@@ -107,6 +129,7 @@ pub fn ids_of(alloc: Global, words: &Words) -> Result<Ids, TypeFault>
         None => Ok(Ids {
             table: pass.table,
             absent: Meaning::Absent,
+            places,
             decorations,
         }),
     }

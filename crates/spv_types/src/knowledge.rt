@@ -3,19 +3,19 @@ ghost use Rattle.std.specs.Prelude.{◌≡◌};
 ghost use Rattle.valid_model.specs.Knowledge as spec;
 ghost use Rattle.spv_types.specs.Tables.{constant_type_by, in_table, meaning_by};
 
+use id_table::IdTable;
 use spirv_model::storage_class;
-use std::collections::BTreeMap;
 use valid_model::{IdFacts, Meaning, Shape};
 
 /// What is known of each id that is defined so far.
-pub type Table = BTreeMap<u32, IdFacts>;
+pub type Table = IdTable<IdFacts>;
 
 /// Whether the id is OpTypeVoid.
 pub fn is_void(table: &Table, id: u32) -> bool
     ensures { result ≡ spec.is_void (meaning_by table.now id) }
 {
     matches!(
-        table.get(&id),
+        table.get(id),
         Some(IdFacts {
             meaning: Meaning::Shape(Shape::Void),
             ..
@@ -28,7 +28,7 @@ pub fn is_bool(table: &Table, id: u32) -> bool
     ensures { result ≡ spec.is_bool (meaning_by table.now id) }
 {
     matches!(
-        table.get(&id),
+        table.get(id),
         Some(IdFacts {
             meaning: Meaning::Shape(Shape::Bool),
             ..
@@ -41,7 +41,7 @@ pub fn is_integer(table: &Table, id: u32) -> bool
     ensures { result ≡ spec.is_integer (meaning_by table.now id) }
 {
     matches!(
-        table.get(&id),
+        table.get(id),
         Some(IdFacts {
             meaning: Meaning::Shape(Shape::Int { .. }),
             ..
@@ -59,7 +59,7 @@ fn is_data_shape(shape: &Shape) -> bool
 pub fn is_data(table: &Table, id: u32) -> bool
     ensures { result ≡ spec.is_data (meaning_by table.now id) }
 {
-    match table.get(&id) {
+    match table.get(id) {
         Some(
             IdFacts {
                 meaning: Meaning::Shape(shape),
@@ -74,14 +74,14 @@ pub fn is_data(table: &Table, id: u32) -> bool
 pub fn size(table: &Table, id: u32) -> u32
     ensures { result ≡ spec.size_in (in_table table.now id) }
 {
-    table.get(&id).map_or(0, |known| known.size)
+    table.get(id).map_or(0, |known| known.size)
 }
 
 /// The elements of an array that has this id for its length.
 pub fn length(table: &Table, id: u32) -> u32
     ensures { result ≡ spec.length_in (in_table table.now id) }
 {
-    table.get(&id).map_or(0, |known| known.length)
+    table.get(id).map_or(0, |known| known.length)
 }
 
 /// Whether pointers and variables may have this storage class.
@@ -122,7 +122,7 @@ pub fn means(meaning: Meaning) -> IdFacts
 pub fn is_constant_of(table: &Table, ty: u32, id: u32) -> bool
     ensures { result ≡ spec.is_constant_of ty (meaning_by table.now id) }
 {
-    match table.get(&id) {
+    match table.get(id) {
         Some(
             IdFacts {
                 meaning: Meaning::Constant { ty: own },
@@ -137,7 +137,7 @@ pub fn is_constant_of(table: &Table, ty: u32, id: u32) -> bool
 pub fn is_truth(table: &Table, id: u32) -> bool
     ensures { result ≡ spec.is_bool (constant_type_by table.now id) }
 {
-    match table.get(&id) {
+    match table.get(id) {
         Some(
             IdFacts {
                 meaning: Meaning::Constant { ty },
@@ -152,7 +152,7 @@ pub fn is_truth(table: &Table, id: u32) -> bool
 pub fn is_word(table: &Table, id: u32) -> bool
     ensures { result ≡ spec.is_integer (constant_type_by table.now id) }
 {
-    match table.get(&id) {
+    match table.get(id) {
         Some(
             IdFacts {
                 meaning: Meaning::Constant { ty },

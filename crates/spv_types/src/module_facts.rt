@@ -5,18 +5,18 @@ ghost use Rattle.valid_model.specs.ModuleFacts as spec;
 ghost use Rattle.spv_types.specs.FactsIn.{facts_in};
 
 use crate::decoration_words::Decorations;
+use crate::definitions::Places;
 use crate::knowledge::Table;
 use spirv_model::class::Class;
 use spirv_model::{Inst, builtin, decoration, execution_model, op};
 use spv_words::class_of;
-use std::collections::BTreeMap;
 
 /// The tables of a module's ids, and its first entry point's execution model.
 #[derive(Debug, Drop)]
 pub struct ModuleTables<'a> {
     pub decorations: &'a Decorations,
     pub known: &'a Table,
-    pub places: &'a BTreeMap<u32, u32>,
+    pub places: &'a Places,
     pub insts: &'a [Inst],
     pub model: Option<u32>,
 }
@@ -65,7 +65,7 @@ fn is_spec_op(opcode: u16) -> bool
 pub fn is_spec_constant(whole: &ModuleTables, id: u32) -> bool
     ensures { result ≡ spec.is_spec_op ((facts_in whole.now).opcode id) }
 {
-    match whole.places.get(&id) {
+    match whole.places.get(id) {
         Some(place) => is_spec_op(opcode_at(whole.insts, *place as usize)),
         None => false,
     }

@@ -6,10 +6,10 @@ use crate::definitions::{Places, inst_at};
 use crate::first_fault::fault_at;
 use crate::knowledge::Table;
 use crate::meanings::known_of;
+use id_table::IdTable;
 use spirv_model::{Inst, Words};
 use spv_words::result;
 use std::alloc::{AllocError, Global};
-use std::collections::BTreeMap;
 use valid_model::TypeFault;
 
 /// A fault and its place.
@@ -34,7 +34,7 @@ fn define(alloc: Global, table: &mut Table, inst: &Inst) -> Result<(), AllocErro
     let Some(id) = result(inst) else {
         return Ok(());
     };
-    if !table.contains_key(&id) {
+    if !table.contains(id) {
         let known = known_of(alloc, table, inst)?;
         table.insert(id, known)?;
     }
@@ -58,9 +58,9 @@ pub fn go_over(alloc: Global, words: &Words, places: &Places) -> Result<FirstPas
     requires defined { HasPlaces places.now words.now.insts }
     ensures { IfOk result (λ pass. IsFirstPass words.now pass) }
 {
-    let mut table = BTreeMap::new(alloc);
-    let mut found = None;
     let insts = words.insts.as_slice();
+    let mut table = IdTable::new(alloc, words.bound, insts.len())?;
+    let mut found = None;
     for place in 0..insts.len() {
         let fault = fault_at(alloc, words, places, &table, place)?;
         found = earlier(found, place, fault);

@@ -14,7 +14,7 @@ pub fn is_integers(table: &Table, id: u32) -> bool
     ensures { result ≡ spec.is_integers (meaning_by table.now id) }
 {
     matches!(
-        table.get(&id),
+        table.get(id),
         Some(IdFacts {
             meaning: Meaning::Shape(Shape::Int { .. } | Shape::IntVector { .. }),
             ..
@@ -26,7 +26,7 @@ pub fn is_integers(table: &Table, id: u32) -> bool
 fn is_position_type(table: &Table, id: u32) -> bool
     ensures { result ≡ spec.is_position_type (meaning_by table.now id) }
 {
-    match table.get(&id) {
+    match table.get(id) {
         Some(
             IdFacts {
                 meaning: Meaning::Shape(Shape::IntVector { comps, signed }),
@@ -42,7 +42,7 @@ pub fn is_array(table: &Table, id: u32) -> bool
     ensures { result ≡ spec.is_array (meaning_by table.now id) }
 {
     matches!(
-        table.get(&id),
+        table.get(id),
         Some(IdFacts {
             meaning: Meaning::Shape(Shape::Array { .. }),
             ..
@@ -54,7 +54,7 @@ pub fn is_array(table: &Table, id: u32) -> bool
 pub fn pointee_id(table: &Table, id: u32) -> Option<u32>
     ensures { result ≡ spec.pointee_id (meaning_by table.now id) }
 {
-    match table.get(&id) {
+    match table.get(id) {
         Some(
             IdFacts {
                 meaning: Meaning::Shape(Shape::Pointer { to, .. }),

@@ -231,6 +231,41 @@ fn the_eleven_ids_of_a_vertex_module(rt: HostRuntime) -> Result<(), Fail> {
 }
 
 #[test]
+fn definitions_and_sizes_of_a_vertex_module(rt: HostRuntime) -> Result<(), Fail> {
+    let ids = sound_ids(&rt, 12, POINT_VERTEX)?;
+    let places = [
+        (0, None),
+        (1, Some(4)),
+        (6, Some(9)),
+        (9, Some(12)),
+        (11, Some(14)),
+        (12, None),
+        (u32::MAX, None),
+    ];
+    for (id, place) in places {
+        assert_eq!(rt; ids.place(id), place, "of {id}");
+    }
+    for (id, size) in [(0, 0), (1, 0), (3, 1), (4, 4), (5, 0), (9, 0), (12, 0)] {
+        assert_eq!(rt; ids.size(id), size, "of {id}");
+    }
+    Ok(())
+}
+
+#[test]
+fn ids_of_few_instructions_under_a_great_bound(rt: HostRuntime) -> Result<(), Fail> {
+    let far: Listing = &[
+        (op::TYPE_INT, &[65535, 32, 1]),
+        (op::TYPE_VECTOR, &[40000, 65535, 3]),
+    ];
+    let ids = sound_ids(&rt, 65536, far)?;
+    assert_eq!(rt; ids.place(65535), Some(0));
+    assert_eq!(rt; ids.place(40000), Some(1));
+    assert_eq!(rt; ids.place(1), None);
+    assert_eq!(rt; ids.size(40000), 3);
+    Ok(())
+}
+
+#[test]
 fn all_ids_of_the_samples_mean_something(rt: HostRuntime) -> Result<(), Fail> {
     let samples: [(Listing, u32); 5] = [
         (POINT_VERTEX, 12),

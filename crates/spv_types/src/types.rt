@@ -38,7 +38,7 @@ fn vector_type(table: &Table, component: u32, count: u32) -> Option<IdFacts>
         return None;
     }
     let comps = count as u8;
-    match table.get(&component)?.meaning {
+    match table.get(component)?.meaning {
         Meaning::Shape(Shape::Bool) => Some(a_type(Shape::BoolVector { comps }, count)),
         Meaning::Shape(Shape::Int { signed }) => {
             Some(a_type(Shape::IntVector { comps, signed }, count))
@@ -51,7 +51,7 @@ fn vector_type(table: &Table, component: u32, count: u32) -> Option<IdFacts>
 fn constant_length(table: &Table, ty: u32, word: u32) -> u32
     ensures { result ≡ spec.constant_length (meaning_by table.now ty) word }
 {
-    match table.get(&ty) {
+    match table.get(ty) {
         Some(
             IdFacts {
                 meaning: Meaning::Shape(Shape::Int { signed }),
@@ -165,7 +165,7 @@ pub fn type_of(alloc: Global, table: &Table, inst: &Inst) -> Result<Option<IdFac
 fn is_pointer_of(table: &Table, class: u32, id: u32) -> bool
     ensures { result ≡ spec.is_pointer_of class (meaning_by table.now id) }
 {
-    match table.get(&id) {
+    match table.get(id) {
         Some(
             IdFacts {
                 meaning: Meaning::Shape(Shape::Pointer { class: own, .. }),
@@ -180,7 +180,7 @@ fn is_function(table: &Table, id: u32) -> bool
     ensures { result ≡ spec.is_function (meaning_by table.now id) }
 {
     matches!(
-        table.get(&id),
+        table.get(id),
         Some(IdFacts {
             meaning: Meaning::Shape(Shape::Function),
             ..
@@ -242,5 +242,5 @@ pub fn has_later_type(insts: &[Inst], places: &Places, place: usize) -> bool
     let Some(ty) = result_type(inst_at(insts, place)) else {
         return false;
     };
-    is_type_after(insts, place, places.get(&ty).copied())
+    is_type_after(insts, place, places.get(ty).copied())
 }
