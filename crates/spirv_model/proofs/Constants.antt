@@ -55,9 +55,9 @@ pub opcodes-bits :
 opcodes-bits = refl
 
 pub opcodes-control_flow :
-    op.PHI ∷ op.LOOP_MERGE ∷ op.SELECTION_MERGE ∷ op.LABEL ∷ op.BRANCH ∷ op.BRANCH_CONDITIONAL ∷ op.KILL ∷
-    op.RETURN ∷ op.UNREACHABLE ∷ op.NO_LINE ∷ op.MODULE_PROCESSED ∷ []
-    ≡ 245 ∷ 246 ∷ 247 ∷ 248 ∷ 249 ∷ 250 ∷ 252 ∷ 253 ∷ 255 ∷ 317 ∷ 330 ∷ []
+    op.PHI ∷ op.LOOP_MERGE ∷ op.SELECTION_MERGE ∷ op.LABEL ∷ op.BRANCH ∷ op.BRANCH_CONDITIONAL ∷ op.SWITCH ∷
+    op.KILL ∷ op.RETURN ∷ op.UNREACHABLE ∷ op.NO_LINE ∷ op.MODULE_PROCESSED ∷ []
+    ≡ 245 ∷ 246 ∷ 247 ∷ 248 ∷ 249 ∷ 250 ∷ 251 ∷ 252 ∷ 253 ∷ 255 ∷ 317 ∷ 330 ∷ []
 opcodes-control_flow = refl
 
 pub decorations :

@@ -1,8 +1,8 @@
 -- Worked modules: what the definition of the instruction list gives for them, by computing.
-use Rattle.std.proofs.Common.{◌≡◌, ℕ, List, [], ◌∷◌, ◌++◌, map, refl}
+use Rattle.std.proofs.Common.{◌≡◌, ℕ, true, false, List, [], ◌∷◌, ◌++◌, map, replicate, refl}
 use Rattle.std.specs.Prelude.{Ok, Err, drop}
 use Rattle.spirv_model.specs.declared.module.WordsFault.TheVariants.{BadHeader, ZeroLength, CutShort, UnknownOp, BadShape, FloatType}
-use Rattle.spirv_model.specs.Module.{module_of, cut, list_of_cut, module_words}
+use Rattle.spirv_model.specs.Module.{module_of, has_header, cut, list_of_cut, module_words}
 use Rattle.spirv_model.specs.Operands.{entry_of, kinds}
 
 -- a vertex module of one point at (128, 128, 0, 0)
@@ -50,6 +50,32 @@ bad-shape = refl
 -- the vertex module is written with the words that it was read from
 pub point-written : module_words (cut (drop 5 point_module)).insts 12 ≡ point_module
 point-written = refl
+
+-- ---- headers
+
+abbrev header_with : (version bound last : ℕ) → List ℕ
+header_with version bound last = 119734787 ∷ version ∷ 0 ∷ bound ∷ last ∷ []
+
+-- versions 0.9, 1.0, 1.6, 1.7 and 2.0, and 1.6 with something in its first or its last byte
+pub versions : map (λ version. has_header (header_with version 12 0)) (0x0900 ∷ 0x1_0000 ∷ 0x1_0600 ∷ 0x1_0700 ∷ 0x2_0000 ∷ 0x0101_0600 ∷ 0x1_0601 ∷ [])
+    ≡ false ∷ true ∷ true ∷ false ∷ false ∷ false ∷ false ∷ []
+versions = refl
+
+pub bounds : map (λ bound. has_header (header_with 65536 bound 0)) (0 ∷ 1 ∷ 65536 ∷ 65537 ∷ 4294967295 ∷ []) ≡ false ∷ true ∷ true ∷ false ∷ false ∷ []
+bounds = refl
+
+-- another fifth word, another magic number, four words, any generator
+pub header-words :
+    map has_header (header_with 65536 12 1 ∷ (50471687 ∷ 65536 ∷ 0 ∷ 12 ∷ 0 ∷ []) ∷ (119734787 ∷ 65536 ∷ 0 ∷ 12 ∷ []) ∷ (119734787 ∷ 65536 ∷ 4294967295 ∷ 12 ∷ 0 ∷ []) ∷ [])
+    ≡ false ∷ false ∷ false ∷ true ∷ []
+header-words = refl
+
+-- 16,384 words, and one more
+pub most-words : has_header (header ++ replicate 16379 0) ≡ true
+most-words = refl
+
+pub too_many-words : has_header (header ++ replicate 16380 0) ≡ false
+too_many-words = refl
 
 -- an id bound above the limit
 pub bad-bound : module_of (119734787 ∷ 65536 ∷ 0 ∷ 4294967295 ∷ 0 ∷ []) ≡ Err BadHeader

@@ -1,3 +1,6 @@
+mod LastBackEdge
+mod ModuleOutcomes
+mod UndefinedResults
 pub mod BlockRuns
 pub mod CodeRuns
 pub mod Comings
@@ -7,6 +10,5 @@ pub mod Flows
 pub mod Jumps
 pub mod LabelPlaces
 pub mod Loops
-mod Samples
 pub mod StageRuns
 pub mod WholeBlocks

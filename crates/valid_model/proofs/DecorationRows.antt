@@ -58,3 +58,13 @@ pub block-faults : map (bad_decoration block) (0 ∷ 1 ∷ 2 ∷ 3 ∷ 6 ∷ 7 �
     ≡ false ∷ false ∷ false ∷ false ∷ false ∷ true ∷ true ∷ false ∷ true ∷ []
 unfolding entry_of class_of result definition type_of known_of known_after known_by decoration_of offset_of opcode_of model_of facts_of before_of bad_decorate bad_member_decorate bad_variable breaks_decorations bad_decoration
 block-faults = refl
+
+-- a decoration with the greatest word that it may have, and with one more, on two ids
+abbrev limits : List Inst
+limits =
+    decorate 1 decoration.LOCATION 7 ∷ decorate 2 decoration.LOCATION 8 ∷ decorate 1 decoration.DESCRIPTOR_SET 3 ∷ decorate 2 decoration.DESCRIPTOR_SET 4
+    ∷ decorate 1 decoration.BINDING 7 ∷ decorate 2 decoration.BINDING 8 ∷ []
+
+pub limit-faults : map (bad_decoration limits) (0 ∷ 1 ∷ 2 ∷ 3 ∷ 4 ∷ 5 ∷ []) ≡ false ∷ true ∷ false ∷ true ∷ false ∷ true ∷ []
+unfolding entry_of class_of result definition type_of known_of known_after known_by decoration_of offset_of opcode_of model_of facts_of before_of bad_decorate bad_member_decorate bad_variable breaks_decorations bad_decoration
+limit-faults = refl

@@ -87,3 +87,29 @@ pub faults : map type_fault (
     ∷ Some (BadType 5) ∷ Some (BadConstant 3) ∷ None ∷ Some (BadConstant 3) ∷ []
 unfolding entry_of class_of kinds ids result definition type_of known_of known_after known_by id_twice id_out_of_bound result_type has_later_type breaks_types bad_type constant_fits bad_constant rule_fault type_fault breaks_decorations bad_decoration
 faults = refl
+
+-- an array of as many arrays of 64 integers, and a structure of an integer and an array of as many integers
+abbrev arrays_of : ℕ → Words
+arrays_of length =
+    module_with (integers ++ inst op.CONSTANT (1 ∷ 3 ∷ 64 ∷ []) ∷ inst op.CONSTANT (1 ∷ 4 ∷ length ∷ [])
+    ∷ inst op.TYPE_ARRAY (5 ∷ 1 ∷ 3 ∷ []) ∷ inst op.TYPE_ARRAY (6 ∷ 5 ∷ 4 ∷ []) ∷ [])
+
+abbrev structure_of : ℕ → Words
+structure_of length =
+    module_with (integers ++ inst op.CONSTANT (1 ∷ 3 ∷ length ∷ []) ∷ inst op.TYPE_ARRAY (4 ∷ 1 ∷ 3 ∷ [])
+    ∷ inst op.TYPE_STRUCT (5 ∷ 1 ∷ 4 ∷ []) ∷ [])
+
+-- a vector of as many integers, and the type with the id
+abbrev vector_of : ℕ → Words
+vector_of count = module_with (integers ++ inst op.TYPE_VECTOR (3 ∷ 1 ∷ count ∷ []) ∷ [])
+
+abbrev id_of : ℕ → Words
+id_of id = module_with (integers ++ inst op.TYPE_BOOL (id ∷ []) ∷ [])
+
+-- types of 4,096 words and of more, vectors of one to five components, and ids from 0 to the bound
+pub limits : map type_fault (arrays_of 64 ∷ arrays_of 65 ∷ structure_of 4095 ∷ structure_of 4096
+    ∷ vector_of 1 ∷ vector_of 2 ∷ vector_of 4 ∷ vector_of 5 ∷ id_of 0 ∷ id_of 11 ∷ id_of 12 ∷ [])
+    ≡ None ∷ Some (BadType 5) ∷ None ∷ Some (BadType 4)
+    ∷ Some (BadType 2) ∷ None ∷ None ∷ Some (BadType 2) ∷ Some (IdOutOfBound 2) ∷ None ∷ Some (IdOutOfBound 2) ∷ []
+unfolding entry_of class_of kinds ids result definition type_of known_of known_after known_by id_twice id_out_of_bound result_type has_later_type breaks_types bad_type constant_fits bad_constant rule_fault type_fault breaks_decorations bad_decoration
+limits = refl
