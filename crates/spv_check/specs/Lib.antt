@@ -1,4 +1,5 @@
 pub mod FactsTold
+pub mod Faults
 pub mod Modules
 pub mod SpecIds
 pub mod TypingIn

@@ -1,5 +1,5 @@
 -- A valid module, as it is kept.
-use Rattle.std.specs.Prelude.{◌≡◌, ℕ, Bool, if◌then◌else◌, List}
+use Rattle.std.specs.Prelude.{◌≡◌, ℕ, ◌<◌, ◌^◌, Bool, if◌then◌else◌, List, length}
 use Rattle.spirv_model.specs.declared.module.Words.{Words}
 use Rattle.state_model.specs.declared.iface.Iface.{Iface}
 use Rattle.check_model.specs.declared.stage.Stage.{Stage}
@@ -13,6 +13,7 @@ use Rattle.spv_types.specs.Answers.{AreIdsOf}
 
 -- the words are a valid module, with this tree, these ids, this stage and this interface
 pub record IsModule (words : Words) (body : Body) (ids : Ids) (stage : Stage) (inputs outputs : Iface) (spec_ids : List ℕ) : Type 0 where
+  pub few : length words.insts < 2 ^ 32
   pub valid : IsValidList words
   pub tree : IsTreeOf words.insts body
   pub told : AreIdsOf words ids

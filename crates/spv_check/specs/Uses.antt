@@ -2,7 +2,8 @@
 use Rattle.std.specs.Prelude.{◌≡◌, ℕ, ◌<◌, Bool, not, List, length, Option, None, slice_index_or}
 use Rattle.std.specs.Option.{option_map, option_or}
 use Rattle.spirv_model.specs.declared.module.Inst.{Inst}
-use Rattle.check_model.specs.Intervals.{Interval}
+use Rattle.body_model.specs.Grammar.{Derives}
+use Rattle.check_model.specs.Intervals.{Interval, intervals_of}
 use Rattle.check_model.specs.declared.fault.CheckFault.{CheckFault}
 use Rattle.check_model.specs.declared.fault.CheckFault.TheVariants as fault
 use Rattle.check_model.specs.OperandTypes.{operands_fit}
@@ -15,6 +16,11 @@ use Rattle.spv_check.specs.TypingIn.{typing_in}
 -- of each place the first id that isn't visible
 abbrev pub AreHidden : List Interval → List Inst → List (Option ℕ) → Type 0
 AreHidden intervals insts hidden = (place : ℕ) → place < length insts → slice_index_or hidden place None ≡ not_visible intervals insts place
+
+-- that, whatever the derivation
+pub record AreAllHidden (insts : List Inst) (hidden : List (Option ℕ)) : Type 0 where
+  pub for_each : length hidden ≡ length insts
+  pub at : (derivation : Derives insts) → AreHidden (intervals_of derivation) insts hidden
 
 -- the fault of an instruction at a place, in the function or outside it, where this id isn't visible
 abbrev pub use_fault_with : ModuleIds → Bool → Inst → ℕ → Option ℕ → Option CheckFault

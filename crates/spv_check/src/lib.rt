@@ -3,9 +3,11 @@
 #![tactic(auto)]
 
 mod branches;
-mod check;
+mod checks;
 mod composite_operands;
+mod copy;
 mod entry_points;
+mod hidden_ids;
 mod interfaces;
 mod list_faults;
 mod memory_operands;
@@ -19,6 +21,7 @@ mod typing;
 mod uses;
 mod visibility;
 
+pub use checks::{check, check_list};
 pub use check_model::{CheckFault, Stage};
 pub use module::Module;
 

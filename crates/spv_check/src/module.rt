@@ -1,4 +1,4 @@
-ghost use Rattle.std.specs.Prelude.{◌≡◌};
+ghost use Rattle.std.specs.Prelude.{◌≡◌, ◌<◌, ◌^◌, length};
 ghost use Rattle.spirv_model.specs.declared.module.Words.{Words};
 ghost use Rattle.check_model.specs.Interfaces as interfaces;
 ghost use Rattle.check_model.specs.Interfaces.{AreSpecIds, stage_of};
@@ -41,6 +41,7 @@ impl Module {
     /// Its instructions in their order.
     pub fn insts(&self) -> &[Inst]
         ensures are { result.now ≡ self.now.insts }
+        ensures few { length result.now < 2 ^ 32 }
         ensures valid { IsValidList self.now }
     {
         self.words.insts.as_slice()
@@ -99,6 +100,7 @@ impl Module {
 
 /// The module with these parts, which are its own.
 pub fn module_with(words: Words, body: Body, ids: Ids, vertex: bool, spec_ids: Items<u32>) -> Module
+    requires few { length words.insts < 2 ^ 32 }
     requires valid { IsValidList words }
     requires tree { IsTreeOf words.insts body }
     requires ids { AreIdsOf words ids }

@@ -6,6 +6,7 @@ use Rattle.spv_check.proofs.module.module_with.Goals as goal
 pub invariant_of-result : goal.invariant_of-result
 unfolding stage_of
 invariant_of-result c = record {
+  few = c.requires.few;
   valid = c.requires.valid;
   tree = c.requires.tree;
   told = c.requires.ids;

@@ -2,7 +2,7 @@ use Rattle.std.proofs.Common.{Bool, true, false, sym, ◌∙◌}
 use Rattle.std.specs.Prelude.{MatchBool}
 use Rattle.check_model.specs.Intervals.{intervals_of}
 use Rattle.check_model.specs.Validity.{HasListFault, of_list, is_memory}
-use Rattle.spv_check.proofs.check.checked_uses.Goals as goal
+use Rattle.spv_check.proofs.checks.checked_uses.Goals as goal
 
 unless : (b : Bool) (P : Type 0) → P → MatchBool b (Unit {0}) P
 unless true P has = tt
