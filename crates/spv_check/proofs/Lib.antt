@@ -6,3 +6,4 @@ pub mod UsePasses
 mod BlockLists
 mod PhiUses
 mod TreeLimits
+mod OperandsUsed

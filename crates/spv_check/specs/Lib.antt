@@ -6,3 +6,4 @@ pub mod Uses
 pub mod Branches
 pub mod SequenceLimits
 pub mod Visibility
+pub mod UsesLeft

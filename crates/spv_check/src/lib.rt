@@ -16,6 +16,7 @@ mod sequence_limits;
 mod spec_ids;
 mod storage;
 mod typing;
+mod used_ids;
 mod uses;
 mod visibility;
 
