@@ -9,3 +9,4 @@ mod FaultsTold
 mod HiddenLists
 mod PhiUses
 mod TreeLimits
+mod OperandsUsed

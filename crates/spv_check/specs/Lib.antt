@@ -7,3 +7,4 @@ pub mod Uses
 pub mod Branches
 pub mod SequenceLimits
 pub mod Visibility
+pub mod UsesLeft

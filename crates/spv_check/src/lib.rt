@@ -18,6 +18,7 @@ mod sequence_limits;
 mod spec_ids;
 mod storage;
 mod typing;
+mod used_ids;
 mod uses;
 mod visibility;
 

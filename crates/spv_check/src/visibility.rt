@@ -13,6 +13,7 @@ ghost use Rattle.spv_check.specs.Branches.{label_at, sources_at};
 ghost use Rattle.spv_check.specs.Visibility.{HasLabels, IsFirstHidden, TellsVisible, blocks_named, first_hidden_id, first_hidden_value, is_shown, phi_hidden};
 
 use crate::branches::{Branches, inst_at, see};
+use crate::used_ids::used_ids;
 use spirv_model::{Inst, op};
 use spv_tree::Memory;
 use spv_types::Ids;
@@ -20,37 +21,35 @@ use std::alloc::Global;
 use std::collections::BTreeSet;
 
 /// The first id that the instruction at a place uses and that isn't visible; before it a phi that doesn't name the blocks
-/// that branch to its block, each once. The ids that it uses are given, in the order of its words, phis aside.
+/// that branch to its block, each once.
 pub fn not_visible(
     alloc: Global,
     insts: &[Inst],
     ids: &Ids,
     limits: &[u32],
     branches: &Branches,
-    used: &[u32],
     place: u32,
 ) -> Result<Option<u32>, Memory>
     requires known { TellsVisible insts.now ids.now limits.now branches.now }
     requires within { place < length insts.now }
-    requires uses { used.now ≡ spec.used_ids (definitions.inst_at insts.now place) }
     ensures { IfOk result (IsFirstHidden insts.now place) }
 {
-    if inst_at(insts, place as usize).op == op::PHI {
+    let inst = inst_at(insts, place as usize);
+    if inst.op == op::PHI {
         return phi_fault(alloc, insts, ids, limits, branches, place);
     }
-    Ok(hidden_id(ids, limits, used, place))
+    Ok(hidden_id(ids, limits, inst, place))
 }
 
-/// The first of the ids that isn't visible at a place.
-fn hidden_id(ids: &Ids, limits: &[u32], used: &[u32], place: u32) -> Option<u32>
-    ensures { result ≡ first_hidden_id ids.now limits.now place used.now }
+/// The first of the ids that an instruction uses, phis aside, that isn't visible at a place.
+fn hidden_id(ids: &Ids, limits: &[u32], inst: &Inst, place: u32) -> Option<u32>
+    ensures { result ≡ first_hidden_id ids.now limits.now place (spec.used_ids inst.now) }
 {
-    let mut rest = used;
-    while let Some((id, after)) = rest.split_first() {
-        if !is_visible(ids, limits, *id, place) {
-            return Some(*id);
+    let mut left = used_ids(inst);
+    while let Some(id) = left.next_id() {
+        if !is_visible(ids, limits, id, place) {
+            return Some(id);
         }
-        rest = after;
     }
     None
 }
