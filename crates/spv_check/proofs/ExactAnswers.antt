@@ -2,6 +2,7 @@
 use Rattle.std.proofs.Common.{◌≡◌, ℕ, List, Bool, true, false, Result, Ok, Err, refl, ap, subst, sym, ◌∙◌}
 use Rattle.std.specs.Prelude.{IfErr, MatchBool}
 use Rattle.basics.specs.Answer.{UnlessMemory, FaultUnlessMemory}
+use Rattle.spirv_model.specs.declared.module.Inst.{Inst}
 use Rattle.spirv_model.specs.declared.module.Words.{Words}
 use Rattle.spirv_model.specs.Module.{module_of}
 use Rattle.check_model.specs.declared.fault.CheckFault.{CheckFault}
@@ -50,6 +51,12 @@ pub list_only : (words : Words) (answer : Result Words CheckFault) → UnlessMem
     → UnlessMemory is_memory (λ value. ⊥) (λ reason. reason ≡ this) answer
 list_only words answer tells this has =
     only_this (IsMadeOf words) (HasListFault words) answer this (λ value made. not_both_of_list words this made.valid has) (λ reason other. one_fault_of_list words reason this other has) tells
+
+-- a copy of a valid module is valid
+pub valid_copy : (words : Words) (bound : ℕ) (insts : List Inst) → bound ≡ words.bound → insts ≡ words.insts → IsValidList words → IsValidList (record { bound = bound; insts = insts })
+valid_copy words bound insts same_bound same valid =
+    subst (λ (n : ℕ). IsValidList (record { bound = n; insts = insts })) (sym same_bound)
+    (subst (λ (l : List Inst). IsValidList (record { bound = words.bound; insts = l })) (sym same) valid)
 
 -- ---- of words
 

@@ -15,9 +15,9 @@ use Rattle.check_model.specs.OperandTypes.{operands_fit}
 use Rattle.check_model.specs.Storage.{is_in_function, is_wrong_storage}
 use Rattle.check_model.specs.Validity.{use_fault_of, use_fault_at, first_use_fault}
 use Rattle.spv_check.specs.declared.typing.ModuleIds.{ModuleIds}
-use Rattle.spv_check.specs.TypingIn.{typing_in}
+use Rattle.spv_check.specs.TypingIn.{AreModuleIds, typing_in}
 use Rattle.spv_check.specs.Uses.{AreHidden, first_fault_of}
-use Rattle.spv_check.proofs.Typings.{AreModuleIds, operands_told, storage_told}
+use Rattle.spv_check.proofs.Typings.{operands_told, storage_told}
 
 -- ---- the first fault of some places
 

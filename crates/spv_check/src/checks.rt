@@ -31,7 +31,6 @@ use std::alloc::Global;
 /// SPIR-V Module and Instruction" and 2.16 "Validation Rules"). Words that are no valid module are refused with their first
 /// fault: that of the words, else of the function, of the ids, of the entry points, of the uses at the lowest place, and of
 /// the interface.
-#[tactic(auto, using(crate::proofs::ExactAnswers::module_exact, crate::proofs::ExactAnswers::module_only))]
 pub fn check(alloc: Global, words: &[u32]) -> Result<Module, CheckFault>
     ensures fault { UnlessMemory is_memory (IsValid words.now) (HasModuleFault words.now) result }
     ensures exact { (read : declared.Words) → IsValid words.now read
@@ -44,7 +43,6 @@ pub fn check(alloc: Global, words: &[u32]) -> Result<Module, CheckFault>
 
 /// The module of instructions and a bound. Those that are no valid module are refused with their first fault. Places are
 /// 32-bit numbers.
-#[tactic(auto, using(crate::proofs::ExactAnswers::list_exact, crate::proofs::ExactAnswers::list_only))]
 pub fn check_list(alloc: Global, words: Words) -> Result<Module, CheckFault>
     requires { length words.insts < 2 ^ 32 }
     ensures fault { UnlessMemory is_memory (IsMadeOf words) (HasListFault words) result }

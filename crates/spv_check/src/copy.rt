@@ -1,5 +1,6 @@
 //! Copies of modules.
 ghost use Rattle.std.specs.Prelude.{◌≡◌, IfOk};
+ghost use Rattle.check_model.specs.declared.fault.CheckFault.TheVariants.{Memory};
 
 use crate::checks::check_list;
 use crate::module::Module;
@@ -16,10 +17,16 @@ impl Module {
         let bound = self.bound();
         match check_list(alloc, Words { bound, insts }) {
             Ok(copy) => Ok(copy),
-            Err(CheckFault::Memory) => Err(AllocError),
-            Err(_) => unreachable!(),
+            Err(fault) => Err(want_of_memory(fault)),
         }
     }
+}
+
+/// The one fault that a valid module has.
+fn want_of_memory(_fault: CheckFault) -> AllocError
+    requires { _fault ≡ Memory }
+{
+    AllocError
 }
 
 fn copies(alloc: Global, insts: &[Inst]) -> Result<Items<Inst>, AllocError>

@@ -22,8 +22,8 @@ mod used_ids;
 mod uses;
 mod visibility;
 
-pub use checks::{check, check_list};
 pub use check_model::{CheckFault, Stage};
+pub use checks::{check, check_list};
 pub use module::Module;
 
 #[cfg(test)]

@@ -2,8 +2,8 @@ use Rattle.std.proofs.Common.{◌≡◌, List, None}
 use Rattle.check_model.specs.Intervals.{Interval}
 use Rattle.check_model.specs.Storage.{is_in_function}
 use Rattle.check_model.specs.Validity.{first_use_fault, use_fault_at}
+use Rattle.spv_check.specs.TypingIn.{AreModuleIds}
 use Rattle.spv_check.specs.Uses.{AreHidden}
-use Rattle.spv_check.proofs.Typings.{AreModuleIds}
 use Rattle.spv_check.proofs.uses.use_fault.Given as goal
 
 abbrev pub invariant-loop-place : goal.invariant-loop-place
