@@ -4,6 +4,8 @@
 #[cfg(test)]
 mod bad_modules;
 #[cfg(test)]
+mod frame;
+#[cfg(test)]
 mod refused_modules;
 #[cfg(test)]
 mod samples;

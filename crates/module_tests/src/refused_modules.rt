@@ -1,3 +1,4 @@
+use crate::frame::{FRONT, add};
 use body_model::TreeFault;
 use spirv_model::{MAGIC, VERSION, op};
 use spv_check::{CheckFault, check};
@@ -6,22 +7,6 @@ use std::test::Fail;
 use valid_model::TypeFault;
 
 type Insts = &'static [(u16, &'static [u32])];
-
-/// The first eleven instructions of fragment modules that write a 32-bit unsigned integer, 3, at location 0, by the variable 5. The
-/// constant 11 is 0.
-const FRONT: [(u16, &[u32]); 11] = [
-    (op::CAPABILITY, &[1]),
-    (op::MEMORY_MODEL, &[0, 1]),
-    (op::ENTRY_POINT, &[4, 7, 0x6e69616d, 0, 5]),
-    (op::EXECUTION_MODE, &[7, 7]),
-    (op::DECORATE, &[5, 30, 0]),
-    (op::TYPE_VOID, &[1]),
-    (op::TYPE_FUNCTION, &[2, 1]),
-    (op::TYPE_INT, &[3, 32, 0]),
-    (op::TYPE_POINTER, &[4, 3, 3]),
-    (op::VARIABLE, &[4, 5, 3]),
-    (op::CONSTANT, &[3, 11, 0]),
-];
 
 const EQUALS_BOUND: [(u16, &[u32]); 1] = [(op::I_ADD, &[3, 50, 11, 11])];
 
@@ -77,16 +62,6 @@ const SECOND_OUTPUT: [(u16, &[u32]); 2] = [
     (op::DECORATE, &[13, 30, 0]),
     (op::VARIABLE, &[4, 13, 3]),
 ];
-
-/// Adds instructions, each of at most 100 words after its first.
-fn add(words: &mut Vec<u32>, insts: &[(u16, &[u32])]) -> Result<(), AllocError> {
-    for (op, operands) in insts {
-        let count = operands.len().min(100) as u32 + 1;
-        words.push(count * 65_536 + u32::from(*op))?;
-        words.extend_from_slice(operands)?;
-    }
-    Ok(())
-}
 
 /// The words of a module with these types and constants and this block. Its ids are below 50.
 fn module(alloc: Global, types: Insts, block: Insts) -> Result<Vec<u32>, AllocError> {

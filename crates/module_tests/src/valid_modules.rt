@@ -1,9 +1,12 @@
+use crate::frame::{FRONT, add};
 use crate::shaders::{
     FLAT_INPUTS, LOOP, NESTED, PUSH_CONSTANTS, SWITCH, UNIFORM_BLOCK, VERTEX_OUTPUTS,
 };
-use limits::LOCATIONS;
+use limits::{LOCATIONS, MODULE_WORDS};
+use spirv_model::{MAGIC, VERSION, op};
 use spv_check::{Stage, check};
 use state_model::{Iface, Slot};
+use std::alloc::{AllocError, Global};
 use std::test::Fail;
 
 /// A point at (128, 128).
@@ -68,5 +71,30 @@ fn valid_modules_are_accepted(rt: HostRuntime) -> Result<(), Fail> {
         let copy = module.copy(rt.alloc())?;
         assert_eq!(rt; copy.insts().len(), module.insts().len());
     }
+    Ok(())
+}
+
+/// The words of a module with so many sums, whose ids begin at 100, and two stores.
+fn sums(alloc: Global, count: u32) -> Result<Vec<u32>, AllocError> {
+    let mut words = Vec::from_slice(alloc, &[MAGIC, VERSION, 0, 10_000, 0])?;
+    add(&mut words, &FRONT)?;
+    add(
+        &mut words,
+        &[(op::FUNCTION, &[1, 7, 0, 2]), (op::LABEL, &[20])],
+    )?;
+    for k in 0..count.min(9000) {
+        add(&mut words, &[(op::I_ADD, &[3, 100 + k, 11, 11])])?;
+    }
+    add(&mut words, &[(op::STORE, &[5, 11]), (op::STORE, &[5, 11])])?;
+    add(&mut words, &[(op::RETURN, &[]), (op::FUNCTION_END, &[])])?;
+    Ok(words)
+}
+
+#[test]
+fn a_module_of_the_greatest_size_is_accepted(rt: HostRuntime) -> Result<(), Fail> {
+    let words = sums(rt.alloc(), 3265)?;
+    assert_eq!(rt; words.len(), MODULE_WORDS);
+    let module = check(rt.alloc(), &words)?;
+    assert_eq!(rt; module.insts().len(), 3282);
     Ok(())
 }
