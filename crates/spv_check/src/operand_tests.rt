@@ -1,5 +1,7 @@
 //! Which operands fit and which storage is wrong, instruction by instruction.
-use crate::{ModuleIds, is_wrong_storage, operands_fit};
+use crate::operand_types::operands_fit;
+use crate::storage::is_wrong_storage;
+use crate::typing::ModuleIds;
 use limits::MODULE_WORDS;
 use spirv_model::{Inst, Items, Words, op};
 use spv_types::{Ids, ids_of};
