@@ -1,8 +1,8 @@
 -- The interface of a module: its inputs and outputs by location, its specialization ids, and the faults NotFlat and
 -- LocationTwice (SPIR-V specification, section 3.20 "Decoration"; Vulkan specification, section "Shader Interfaces").
-use Rattle.std.specs.Prelude.{◌≡◌, ℕ, ◌<◌, ◌==◌, Bool, true, false, not, ◌&&◌, ◌||◌, nat_le, if◌then◌else◌, List, [], ◌∷◌, length, map, filter, slice_index, Option, None, Some}
+use Rattle.std.specs.Prelude.{◌≡◌, ℕ, ◌<◌, Bool, not, ◌&&◌, ◌||◌, nat_le, if◌then◌else◌, List, length, map, filter, slice_index, Option, None, Some}
 use Rattle.std.specs.List.{find, list_any, range_with_len}
-use Rattle.std.specs.Option.{option_map, option_and_then}
+use Rattle.std.specs.Option.{option_and_then}
 use Rattle.limits.specs.declared.TheConstants.{LOCATIONS}
 use Rattle.spirv_model.specs.declared.module.Inst.{Inst}
 use Rattle.spirv_model.specs.declared.decoration.TheConstants.{LOCATION, FLAT}

@@ -4,6 +4,14 @@
 #[cfg(test)]
 mod bad_modules;
 #[cfg(test)]
+mod frame;
+#[cfg(test)]
+mod refused_modules;
+#[cfg(test)]
 mod samples;
 #[cfg(test)]
+mod shaders;
+#[cfg(test)]
 mod tests;
+#[cfg(test)]
+mod valid_modules;

@@ -3,6 +3,7 @@ use crate::bad_modules::{
     OPERAND_OF_RETURN, TYPE_OUT_OF_BOUND, UNIFORM_COORDINATE, UNKNOWN, VARIABLE_BEHIND_RETURN,
     VARIABLE_OF_AN_INTEGER,
 };
+use crate::frame::add;
 use crate::samples::{LOOP_MODULE, NAMES_MODULE, SELECTION_MODULE};
 use spirv_model::{MAGIC, VERSION, Words, WordsFault};
 use spv_tree::{Block, End, Node, Run, TreeFault, flatten, tree_of};
@@ -16,11 +17,7 @@ use valid_model::TypeFault;
 /// The words of a module with these instructions, each of at most 100 words after its first.
 fn words_of(alloc: Global, insts: &[(u16, &[u32])], bound: u32) -> Result<Vec<u32>, AllocError> {
     let mut words = Vec::from_slice(alloc, &[MAGIC, VERSION, 0, bound, 0])?;
-    for (op, operands) in insts {
-        let count = operands.len().min(100) as u32 + 1;
-        words.push(count * 65_536 + u32::from(*op))?;
-        words.extend_from_slice(operands)?;
-    }
+    add(&mut words, insts)?;
     Ok(words)
 }
 

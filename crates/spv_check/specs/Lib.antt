@@ -1,0 +1,10 @@
+pub mod FactsTold
+pub mod Faults
+pub mod Modules
+pub mod SpecIds
+pub mod TypingIn
+pub mod Uses
+pub mod Branches
+pub mod SequenceLimits
+pub mod Visibility
+pub mod UsesLeft

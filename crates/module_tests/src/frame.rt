@@ -1,0 +1,30 @@
+//! What sample modules have in common.
+
+use spirv_model::op;
+use std::alloc::AllocError;
+
+/// The first eleven instructions of fragment modules that write a 32-bit unsigned integer, 3, at location 0, by the variable 5. The
+/// constant 11 is 0.
+pub const FRONT: [(u16, &[u32]); 11] = [
+    (op::CAPABILITY, &[1]),
+    (op::MEMORY_MODEL, &[0, 1]),
+    (op::ENTRY_POINT, &[4, 7, 0x6e69616d, 0, 5]),
+    (op::EXECUTION_MODE, &[7, 7]),
+    (op::DECORATE, &[5, 30, 0]),
+    (op::TYPE_VOID, &[1]),
+    (op::TYPE_FUNCTION, &[2, 1]),
+    (op::TYPE_INT, &[3, 32, 0]),
+    (op::TYPE_POINTER, &[4, 3, 3]),
+    (op::VARIABLE, &[4, 5, 3]),
+    (op::CONSTANT, &[3, 11, 0]),
+];
+
+/// Adds instructions, each of at most 100 words after its first.
+pub fn add(words: &mut Vec<u32>, insts: &[(u16, &[u32])]) -> Result<(), AllocError> {
+    for (op, operands) in insts {
+        let count = operands.len().min(100) as u32 + 1;
+        words.push(count * 65_536 + u32::from(*op))?;
+        words.extend_from_slice(operands)?;
+    }
+    Ok(())
+}
