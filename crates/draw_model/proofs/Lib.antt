@@ -1,2 +1,11 @@
+pub mod AgreeingDraws
+pub mod Assembled
+pub mod BoundingBox
+pub mod CanonicalDraws
+pub mod Entries
+pub mod Pairs
 mod Samples
+pub mod StageGiven
 mod TopLeft
+pub mod Unwritten
+mod Worked

@@ -1,30 +1,18 @@
--- The target after the draw of one point, by what its two invocations leave.
-use Rattle.std.specs.Prelude.{ℕ, ◌≤◌, Bool, true, false, ◌&&◌, if◌then◌else◌, List, [], ◌∷◌, map, slice_index, slice_index_or}
+-- The target after the draw of one point, by what its two invocations leave: what the program plays today. The meaning of a
+-- whole draw is in WholeDraw.antt.
+use Rattle.std.specs.Prelude.{ℕ, ◌≤◌, Bool, ◌&&◌, if◌then◌else◌, List, [], ◌∷◌, map, slice_index, slice_index_or}
 use Rattle.std.specs.List.{flat_map, range_with_len}
 use Rattle.limits.specs.declared.TheConstants.{MAX_SIDE}
 use Rattle.state_model.specs.declared.parts.Topology.TheVariants.{Points}
-use Rattle.stage_model.specs.declared.outcome.Kind.{Kind}
-use Rattle.stage_model.specs.declared.outcome.Kind.TheVariants.{Done, Killed, Lost}
 use Rattle.stage_model.specs.declared.outcome.Ended.{Ended}
 use Rattle.draw_model.specs.declared.target.Target.{Target}
 use Rattle.draw_model.specs.Coverage.{is_covered}
+pub use Rattle.draw_model.specs.Invocation.{is_drawn, writes}
 
 -- its sides are within the limit
 pub record HasLimitedSides (target : Target) : Type 0 where
   pub width : target.width ≤ MAX_SIDE
   pub height : target.height ≤ MAX_SIDE
-
--- the invocation wasn't lost, so its primitive is drawn
-abbrev pub is_drawn : Kind → Bool
-is_drawn Done = true
-is_drawn Killed = true
-is_drawn Lost = false
-
--- the invocation writes what it leaves
-abbrev pub writes : Kind → Bool
-writes Done = true
-writes Killed = false
-writes Lost = false
 
 -- the first component at the first location
 abbrev pub colour_of : Ended → ℕ

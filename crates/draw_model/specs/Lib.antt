@@ -1,5 +1,11 @@
+pub mod Agreement
 pub mod Assembly
 pub mod Coverage
 pub mod Draw
 pub mod Fetch
+pub mod Invocation
+pub mod LawfulDraw
 pub mod Pixel
+pub mod SampleWrites
+pub mod TargetWords
+pub mod WholeDraw

@@ -1,9 +1,13 @@
-//! What the fixed stages of a draw give: which vertices make a primitive, what an attribute reads, which pixels a primitive
-//! covers, what becomes of a sample, and what a target holds after the draw of one point. The definitions are in `specs/`.
+//! What a draw gives: which vertices make a primitive, what an attribute reads, which pixels a primitive covers, what becomes
+//! of a sample, and the targets and the work of a whole draw. The definitions are in `specs/`.
 #![tactic(auto)]
 
+pub mod command;
+pub mod framebuffer;
 mod position;
 mod target;
 
+pub use command::{DrawCall, Dynamic};
+pub use framebuffer::Targets;
 pub use position::Position;
 pub use target::Target;
