@@ -49,8 +49,10 @@ int main() {
       uint64_t count = 0;
       return spvBinaryParse(context, &count, words.data(), words.size(), Header, Instruction, nullptr) == SPV_SUCCESS;
     });
-    Time(name + ", read and check", words.size(), kValidations,
-         [&] { return spvValidateBinary(context, words.data(), words.size(), nullptr) == SPV_SUCCESS; });
+    for (const std::string call : {", read, tree and ids", ", check"}) {
+      Time(name + call, words.size(), kValidations,
+           [&] { return spvValidateBinary(context, words.data(), words.size(), nullptr) == SPV_SUCCESS; });
+    }
   }
   spvContextDestroy(context);
 }
