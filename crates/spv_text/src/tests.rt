@@ -59,53 +59,55 @@ fn words_that_are_no_module_have_no_listing(rt: HostRuntime) {
     );
 }
 
+// A listing with a faulty line, the line's number and its first cause.
+const FAULTY_LINES: [(&[u8], u32, TextCause); 26] = [
+    (b"", 1, TextCause::NoHead),
+    (b"spvt 1 9", 1, TextCause::NoEnd),
+    (b"gplt 1\n", 1, TextCause::NoHead),
+    (b"spvt 1 0\n", 1, TextCause::NoHead),
+    (b"spvt 1 65537\n", 1, TextCause::NoHead),
+    (b"spvt 1 09\n", 1, TextCause::NoHead),
+    (b"spvt 1 9\r\nOpReturn\r\n", 1, TextCause::NoHead),
+    (b"spvt 1 9\nOpReturn\r\n", 2, TextCause::NoName),
+    (b"spvt 1 9\nOpReturn", 2, TextCause::NoEnd),
+    (b"spvt 1 9\nOpNop", 2, TextCause::NoEnd),
+    (b"spvt 1 9\n%3 = OpTypeFloat 32\n", 2, TextCause::NoName),
+    (b"spvt 1 9\nOpNop\n", 2, TextCause::NoName),
+    (b"spvt 1 9\n\n", 2, TextCause::NoName),
+    (b"spvt 1 9\nOpRetur\n", 2, TextCause::NoName),
+    (b"spvt 1 9\nOpStore\t%5 %6\n", 2, TextCause::NoName),
+    (b"spvt 1 9\nOpReturn 0\n", 2, TextCause::BadOperands),
+    (b"spvt 1 9\nOpStore 5 %6\n", 2, TextCause::BadOperands),
+    (b"spvt 1 9\nOpStore %05 %6\n", 2, TextCause::BadOperands),
+    (
+        b"spvt 1 9\nOpStore %4294967296 %6\n",
+        2,
+        TextCause::BadOperands,
+    ),
+    (b"spvt 1 9\nOpLabel\n", 2, TextCause::BadOperands),
+    (b"spvt 1 9\n%7 = OpPhi %3 %1\n", 2, TextCause::BadOperands),
+    (b"spvt 1 9\nOpCapability 2\n", 2, TextCause::BadOperands),
+    (
+        b"spvt 1 9\n%1 = OpExtInstImport x4A\n",
+        2,
+        TextCause::BadOperands,
+    ),
+    (
+        b"spvt 1 9\n%1 = OpExtInstImport x4100\n",
+        2,
+        TextCause::BadOperands,
+    ),
+    (
+        b"spvt 1 9\nOpReturn\nOpReturn 0\nOpNop\n",
+        3,
+        TextCause::BadOperands,
+    ),
+    (b"spvt 1 9\nOpReturn\nOpKill \n", 3, TextCause::BadOperands),
+];
+
 #[test]
 fn the_first_faulty_line_and_its_first_cause_are_answered(rt: HostRuntime) {
-    let cases: [(&[u8], u32, TextCause); 26] = [
-        (b"", 1, TextCause::NoHead),
-        (b"spvt 1 9", 1, TextCause::NoEnd),
-        (b"gplt 1\n", 1, TextCause::NoHead),
-        (b"spvt 1 0\n", 1, TextCause::NoHead),
-        (b"spvt 1 65537\n", 1, TextCause::NoHead),
-        (b"spvt 1 09\n", 1, TextCause::NoHead),
-        (b"spvt 1 9\r\nOpReturn\r\n", 1, TextCause::NoHead),
-        (b"spvt 1 9\nOpReturn\r\n", 2, TextCause::NoName),
-        (b"spvt 1 9\nOpReturn", 2, TextCause::NoEnd),
-        (b"spvt 1 9\nOpNop", 2, TextCause::NoEnd),
-        (b"spvt 1 9\n%3 = OpTypeFloat 32\n", 2, TextCause::NoName),
-        (b"spvt 1 9\nOpNop\n", 2, TextCause::NoName),
-        (b"spvt 1 9\n\n", 2, TextCause::NoName),
-        (b"spvt 1 9\nOpRetur\n", 2, TextCause::NoName),
-        (b"spvt 1 9\nOpStore\t%5 %6\n", 2, TextCause::NoName),
-        (b"spvt 1 9\nOpReturn 0\n", 2, TextCause::BadOperands),
-        (b"spvt 1 9\nOpStore 5 %6\n", 2, TextCause::BadOperands),
-        (b"spvt 1 9\nOpStore %05 %6\n", 2, TextCause::BadOperands),
-        (
-            b"spvt 1 9\nOpStore %4294967296 %6\n",
-            2,
-            TextCause::BadOperands,
-        ),
-        (b"spvt 1 9\nOpLabel\n", 2, TextCause::BadOperands),
-        (b"spvt 1 9\n%7 = OpPhi %3 %1\n", 2, TextCause::BadOperands),
-        (b"spvt 1 9\nOpCapability 2\n", 2, TextCause::BadOperands),
-        (
-            b"spvt 1 9\n%1 = OpExtInstImport x4A\n",
-            2,
-            TextCause::BadOperands,
-        ),
-        (
-            b"spvt 1 9\n%1 = OpExtInstImport x4100\n",
-            2,
-            TextCause::BadOperands,
-        ),
-        (
-            b"spvt 1 9\nOpReturn\nOpReturn 0\nOpNop\n",
-            3,
-            TextCause::BadOperands,
-        ),
-        (b"spvt 1 9\nOpReturn\nOpKill \n", 3, TextCause::BadOperands),
-    ];
-    for (text, line, cause) in cases {
+    for (text, line, cause) in FAULTY_LINES {
         assert_eq!(rt;
             fault_of(rt.alloc(), text),
             Some((line, cause)),
