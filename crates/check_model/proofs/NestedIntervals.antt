@@ -59,14 +59,17 @@ placed {is = is} {js = js} {from = from} {middle = middle} {to = to} {end = end}
   out_left : (a : ℕ) → (a < from) ⊎ (to ≤ a) → (a < from) ⊎ (middle ≤ a)
   out_left a (inl less) = inl less
   out_left a (inr past) = inr (omega (arith, past, two.size))
+
   out_right : (a : ℕ) → (a < from) ⊎ (to ≤ a) → (a < middle) ⊎ (to ≤ a)
   out_right a (inl less) = inl (omega (arith, less, one.size))
   out_right a (inr past) = inr past
+
   near : (a b : ℕ) → from ≤ a → a < middle → a < b → ((keeps is a b && keeps js a b) && nat_lt b end) ≡ nat_lt b (get_or (ls ++ ms) (a - from) 0)
   near a b after before less =
       let few : a - from < length ls = omega (arith, one.size) in
       with_true (keeps is a b) (keeps js a b) (nat_lt b end) (nat_lt b (get_or (ls ++ ms) (a - from) 0)) (two.outside a b (inl before))
       (one.inside a b after before less ∙ ap (nat_lt b) (sym (get_or_append_left ls ms 0 (a - from) few)))
+
   far : (a b : ℕ) → middle ≤ a → a < to → a < b → ((keeps is a b && keeps js a b) && nat_lt b end) ≡ nat_lt b (get_or (ls ++ ms) (a - from) 0)
   far a b after before less =
       let long : length ls ≡ middle - from = omega (arith, one.size) in
@@ -74,6 +77,7 @@ placed {is = is} {js = js} {from = from} {middle = middle} {to = to} {end = end}
       let same : (a - from) - (middle - from) ≡ a - middle = omega (arith, one.size) in
       behind_true (keeps is a b) (keeps js a b) (nat_lt b end) (nat_lt b (get_or (ls ++ ms) (a - from) 0)) (one.outside a b (inr after))
       (two.inside a b after before less ∙ ap (nat_lt b) (sym (get_or-append_right ls ms (middle - from) (a - from) 0 long behind ∙ ap (λ (n : ℕ). get_or ms n 0) same)))
+
   split : (a b : ℕ) → from ≤ a → a < to → a < b → ((keeps is a b && keeps js a b) && nat_lt b end) ≡ nat_lt b (get_or (ls ++ ms) (a - from) 0)
   split a b after before less = elim (cases_lt a middle) [ inl left ↦ near a b after left less | inr right ↦ far a b right before less ]
 
@@ -90,11 +94,14 @@ enclosed {is = is} {from = from} {to = to} end {ls = ls} one within = record {
   without : (h k : Bool) → h ≡ false → (not h || k) ≡ true
   without false k is = refl
   without true k is = absurd (cc)
+
   not_both : (x y : Bool) → y ≡ false → (x && y) ≡ false
   not_both true y is = is
   not_both false y is = refl
+
   absent : (a : ℕ) → (a < from) ⊎ (to ≤ a) → has_place a (interval from to) ≡ false
   absent a (inl less) = ap (λ (h : Bool). h && nat_lt a to) (lt-leb from a less)
   absent a (inr past) = not_both (nat_le from a) (nat_lt a to) (le-ltb a to past)
+
   not_there : (a b : ℕ) → (a < from) ⊎ (to ≤ a) → (not (has_place a (interval from to)) || has_place b (interval from to)) ≡ true
   not_there a b out = without (has_place a (interval from to)) (has_place b (interval from to)) (absent a out)
