@@ -24,3 +24,6 @@ pub mod SilentSteps
 pub mod ModuleTyped
 pub mod ValidModules
 pub mod ValidFunctions
+pub mod ReadTypes
+pub mod UsedReads
+pub mod ReadValues
