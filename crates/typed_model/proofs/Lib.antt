@@ -27,3 +27,4 @@ pub mod ValidFunctions
 pub mod ReadTypes
 pub mod UsedReads
 pub mod ReadValues
+pub mod InstructionsRun
