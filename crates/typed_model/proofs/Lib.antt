@@ -28,3 +28,4 @@ pub mod ReadTypes
 pub mod UsedReads
 pub mod ReadValues
 pub mod InstructionsRun
+pub mod BlockParts
