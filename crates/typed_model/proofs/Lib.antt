@@ -29,3 +29,4 @@ pub mod UsedReads
 pub mod ReadValues
 pub mod InstructionsRun
 pub mod BlockParts
+pub mod FunctionParts
