@@ -30,3 +30,4 @@ pub mod ReadValues
 pub mod InstructionsRun
 pub mod BlockParts
 pub mod FunctionParts
+pub mod BlockResults
