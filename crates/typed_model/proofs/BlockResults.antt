@@ -36,21 +36,21 @@ class_types (Some class.Composite) is = (refl, refl)
 class_types (Some (class.Scalar operation)) is = (refl, refl)
 class_types of is = cc
 
-abbrev gives_value : ℕ → Bool
+abbrev pub gives_value : ℕ → Bool
 gives_value opcode = has_result_class (class_of opcode)
 
-other_opcode : (own opcode : ℕ) → gives_value own ≡ false → gives_value opcode ≡ true → opcode == own ≡ false
+pub other_opcode : (own opcode : ℕ) → gives_value own ≡ false → gives_value opcode ≡ true → opcode == own ≡ false
 other_opcode own opcode isnt is = by_test own opcode (opcode == own) refl isnt is
   where
     by_test : (own opcode : ℕ) (b : Bool) → opcode == own ≡ b → gives_value own ≡ false → gives_value opcode ≡ true → b ≡ false
     by_test own opcode true equal isnt is = let e = sym (ap gives_value (same opcode own equal)) ∙ is in cc
     by_test own opcode false equal isnt is = refl
 
-label_gives : gives_value op.LABEL ≡ false
+pub label_gives : gives_value op.LABEL ≡ false
 unfolding class_of entry_of
 label_gives = refl
 
-variable_gives : gives_value op.VARIABLE ≡ false
+pub variable_gives : gives_value op.VARIABLE ≡ false
 unfolding class_of entry_of
 variable_gives = refl
 

@@ -31,3 +31,4 @@ pub mod InstructionsRun
 pub mod BlockParts
 pub mod FunctionParts
 pub mod BlockResults
+pub mod KeptSteps
