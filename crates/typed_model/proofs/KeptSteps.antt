@@ -4,7 +4,18 @@ use Rattle.std.specs.Option.{option_map, option_and_then}
 use Rattle.spirv_model.specs.declared.module.Inst.{Inst}
 use Rattle.spirv_model.specs.declared.op.TheConstants as op
 use Rattle.spirv_model.specs.Operands.{word_at, entry_of, class_of, result}
+use Rattle.spirv_model.specs.declared.class.Class.{Class}
+use Rattle.spirv_model.specs.declared.class.Class.TheVariants as class
+use Rattle.body_model.specs.Classes.{is_plain_class, is_plain}
 use Rattle.valid_model.specs.Definitions.{gives, inst_at, id_twice}
+use Rattle.valid_model.specs.Knowledge.{Knowledge}
+use Rattle.valid_model.specs.Meanings.{known_of, known_before, meaning}
+use Rattle.check_model.specs.Typing.{type_id}
+use Rattle.typed_model.specs.Types.{HasTypes}
+use Rattle.typed_model.proofs.ResultIds.{defines, defined_id}
+use Rattle.typed_model.proofs.ModuleValues.{defined_at, meaning_at}
+use Rattle.typed_model.proofs.ModuleSteps.{variable_suits}
+use Rattle.typed_model.proofs.SilentSteps.{given_id}
 use Rattle.check_model.specs.Intervals.{Interval}
 use Rattle.stage_model.specs.Value.{Value, Truth, Word, Composite, Pointer, Outside, words_of}
 use Rattle.stage_model.specs.Program.{Program, program_of}
@@ -14,7 +25,7 @@ use Rattle.typed_model.specs.Effects.{IsTypedEffect, Runs}
 use Rattle.typed_model.specs.Judgement.{AreTyped}
 use Rattle.typed_model.proofs.EffectsRun.{instruction}
 use Rattle.typed_model.proofs.PlainRuns.{at_op}
-use Rattle.typed_model.proofs.TypedSteps.{not_none, typed_on}
+use Rattle.typed_model.proofs.TypedSteps.{not_none, typed_on, typed_with}
 use Rattle.typed_model.proofs.BlockResults.{gives_value, other_opcode, label_gives, variable_gives, typed_behind}
 
 -- the judgement at the next place, with the values behind an effect
@@ -116,3 +127,72 @@ store_kept insts intervals place values memory read is r typed =
     let n = at_op (GivesNone (program_of insts) memory read) inst op.STORE is (store_words (program_of insts) memory read inst.words) in
     by_effect insts intervals place values r.effect (λ value e. n.0 value (r.is ∙ ap Some e))
     (typed_on insts intervals place values (λ id type has of. not_none id (result inst) n.1 has) typed)
+
+-- ---- plain instructions
+
+plain_gives : (of : Option Class) → is_plain_class of ≡ true → has_result_class of ≡ true
+plain_gives (Some class.Undef) is = refl
+plain_gives (Some class.Memory) is = refl
+plain_gives (Some class.Composite) is = refl
+plain_gives (Some (class.Scalar operation)) is = refl
+plain_gives of is = cc
+
+pub plain_kept : (insts : List Inst) (intervals : List Interval) (place : ℕ) (values : Values) (memory : Memory) (read : List Value) → place < length insts → id_twice insts place ≡ None → is_plain (inst_at insts place).op ≡ true
+    → (r : Runs (program_of insts) memory (inst_at insts place) read) → AreTyped insts intervals place values → AreKept insts intervals place values r.effect
+plain_kept insts intervals place values memory read within once plain r typed = by_store ((inst_at insts place).op == op.STORE) refl
+  where
+    by_store : (b : Bool) → (inst_at insts place).op == op.STORE ≡ b → AreKept insts intervals place values r.effect
+    by_store true is = store_kept insts intervals place values memory read is r typed
+    by_store false isnt = value_kept insts intervals place values memory read within once (plain_gives (class_of (inst_at insts place).op) plain) isnt r typed
+
+-- ---- labels, merge instructions and variables
+
+untyped_kept : (insts : List Inst) (intervals : List Interval) (place : ℕ) (values : Values) → place < length insts → id_twice insts place ≡ None
+    → ((id : ℕ) → result (inst_at insts place) ≡ Some id → type_id (known_of (known_before insts place) (inst_at insts place)).meaning ≡ None) → AreTyped insts intervals place values → AreTyped insts intervals (place + 1) values
+untyped_kept insts intervals place values within once none typed = typed_on insts intervals place values
+    (λ id type is of.
+    let has = given_id id (result (inst_at insts place)) is in
+    let e : type_id (meaning insts id) ≡ None = ap type_id (meaning_at insts place id (defined_at insts place id within has once)) ∙ none id has in absurd (clash type (sym of ∙ e))) typed
+  where
+    clash : (type : ℕ) → ◌≡◌ {A = Option ℕ} (Some type) None → ⊥
+    clash type is = cc
+
+label_untyped : (known : Knowledge) (words : List ℕ) → type_id (known_of known (instruction op.LABEL words)).meaning ≡ None
+unfolding known_of class_of entry_of
+label_untyped known words = refl
+
+pub label_kept : (insts : List Inst) (intervals : List Interval) (place : ℕ) (values : Values) → place < length insts → id_twice insts place ≡ None → (inst_at insts place).op == op.LABEL ≡ true
+    → AreTyped insts intervals place values → AreTyped insts intervals (place + 1) values
+label_kept insts intervals place values within once is typed =
+    untyped_kept insts intervals place values within once
+    (λ id has. at_op (λ inst. type_id (known_of (known_before insts place) inst).meaning ≡ None) (inst_at insts place) op.LABEL is (label_untyped (known_before insts place) (inst_at insts place).words)) typed
+
+none_kept : (insts : List Inst) (intervals : List Interval) (place : ℕ) (values : Values) → result (inst_at insts place) ≡ None → AreTyped insts intervals place values → AreTyped insts intervals (place + 1) values
+none_kept insts intervals place values none typed = typed_on insts intervals place values (λ id type has of. not_none id (result (inst_at insts place)) none has) typed
+
+selection_result : (words : List ℕ) → result (instruction op.SELECTION_MERGE words) ≡ None
+unfolding result entry_of
+selection_result words = refl
+
+loop_result : (words : List ℕ) → result (instruction op.LOOP_MERGE words) ≡ None
+unfolding result entry_of
+loop_result words = refl
+
+pub selection_merge_kept : (insts : List Inst) (intervals : List Interval) (place : ℕ) (values : Values) → (inst_at insts place).op == op.SELECTION_MERGE ≡ true → AreTyped insts intervals place values → AreTyped insts intervals (place + 1) values
+selection_merge_kept insts intervals place values is typed =
+    none_kept insts intervals place values (at_op (λ inst. result inst ≡ None) (inst_at insts place) op.SELECTION_MERGE is (selection_result (inst_at insts place).words)) typed
+
+pub loop_merge_kept : (insts : List Inst) (intervals : List Interval) (place : ℕ) (values : Values) → (inst_at insts place).op == op.LOOP_MERGE ≡ true → AreTyped insts intervals place values → AreTyped insts intervals (place + 1) values
+loop_merge_kept insts intervals place values is typed =
+    none_kept insts intervals place values (at_op (λ inst. result inst ≡ None) (inst_at insts place) op.LOOP_MERGE is (loop_result (inst_at insts place).words)) typed
+
+variable_class : defines (class_of op.VARIABLE) ≡ true
+unfolding class_of entry_of
+variable_class = refl
+
+-- OpVariable gives a pointer to the whole variable
+pub variable_kept : (insts : List Inst) (intervals : List Interval) (place : ℕ) (values : Values) → HasTypes (program_of insts) → place < length insts → id_twice insts place ≡ None → (inst_at insts place).op == op.VARIABLE ≡ true
+    → AreTyped insts intervals place values → AreKept insts intervals place values (Gives (Pointer (word_at 1 (inst_at insts place)) []))
+variable_kept insts intervals place values types within once is typed =
+    let defined = at_op (λ inst. defines (class_of inst.op) ≡ true) (inst_at insts place) op.VARIABLE is variable_class in
+    typed_with insts intervals place (word_at 1 (inst_at insts place)) values (Pointer (word_at 1 (inst_at insts place)) []) (defined_id (inst_at insts place) defined) once (variable_suits insts place types within once is defined) typed
