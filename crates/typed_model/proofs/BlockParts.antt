@@ -14,7 +14,7 @@ use Rattle.body_model.specs.Classes.{is_plain, is_terminator}
 use Rattle.body_model.specs.Scope.{Scope}
 use Rattle.body_model.specs.Switches.{is_among, repeat, literals_of}
 use Rattle.body_model.specs.Due.{only, IsDue}
-use Rattle.body_model.specs.Blocks.{leads_to_loop, may_have_phis, branch_end, branch, test_end, invocation_end, terminator_end, unmerged, selection_end, loop_branch, loop_end, last_part, rest_of_block, block_from, block_end}
+use Rattle.body_model.specs.Blocks.{leads_to_loop, may_have_phis, branch_end, test_end, invocation_end, terminator_end, unmerged, selection_end, loop_branch, loop_end, last_part, rest_of_block, block_from, block_end}
 use Rattle.body_model.proofs.ClassFacts.{ends_branch, ends_branch_conditional, ends_switch, ends_return, ends_unreachable, ends_kill}
 use Rattle.body_model.proofs.Dues.{stands_at}
 use Rattle.body_model.proofs.Shapes.{after_of, IsWhole}

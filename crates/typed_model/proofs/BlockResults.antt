@@ -10,9 +10,9 @@ use Rattle.valid_model.specs.declared.meaning.Meaning.TheVariants.{Value as Valu
 use Rattle.valid_model.specs.Definitions.{inst_at, id_twice}
 use Rattle.valid_model.specs.Knowledge.{Knowledge, means}
 use Rattle.valid_model.specs.Types.{is_type_class, is_type, type_of}
-use Rattle.valid_model.specs.Meanings.{is_constant_class, is_constant, constant_known, variable_meaning, other_meaning, known_of, known_before, meaning}
+use Rattle.valid_model.specs.Meanings.{is_constant_class, is_constant, constant_known, variable_meaning, known_of, known_before}
 use Rattle.check_model.specs.Intervals.{Interval}
-use Rattle.check_model.specs.Typing.{type_id, constant_in, constant_word}
+use Rattle.check_model.specs.Typing.{type_id, constant_word}
 use Rattle.stage_model.specs.Value.{Value}
 use Rattle.stage_model.specs.Program.{program_of}
 use Rattle.stage_model.specs.Start.{Values, with_value}

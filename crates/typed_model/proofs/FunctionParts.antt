@@ -1,5 +1,5 @@
 -- What stands in a function: parts of blocks; behind a terminator stands a label or the function's end, and behind any other a further part.
-use Rattle.std.proofs.Common.{◌≡◌, ℕ, zero, suc, ◌+◌, ◌-◌, ◌<◌, ◌≤◌, ◌==◌, ◌⊎◌, inl, inr, Bool, true, false, List, [], ◌∷◌, ◌++◌, length, drop, refl, ap, sym, ◌∙◌, subst, arith, Option, None, Some}
+use Rattle.std.proofs.Common.{◌≡◌, ℕ, zero, suc, ◌+◌, ◌-◌, ◌<◌, ◌≤◌, ◌==◌, ◌⊎◌, inl, inr, Bool, true, false, List, [], ◌∷◌, ◌++◌, length, drop, refl, ap, sym, ◌∙◌, subst, arith, Option, Some}
 use Rattle.std.specs.Prelude.{slice_get}
 use Rattle.std.proofs.lemmas.Bool.{cases_lt}
 use Rattle.spirv_model.specs.declared.module.Inst.{Inst}
@@ -15,7 +15,7 @@ use Rattle.body_model.proofs.Dues.{stands_at}
 use Rattle.body_model.proofs.Shapes.{after_of, IsWhole}
 use Rattle.body_model.proofs.Slices.{slice_get-drop}
 use Rattle.body_model.proofs.Forward.{forward, arm_forward, arms_forward}
-use Rattle.stage_model.proofs.WholeBlocks.{BlockAt, block_at}
+use Rattle.stage_model.proofs.WholeBlocks.{block_at}
 use Rattle.typed_model.proofs.VisibleJumps.{block_last}
 use Rattle.typed_model.proofs.BlockParts.{BlockPart, block_parts}
 

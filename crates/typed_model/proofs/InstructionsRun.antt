@@ -1,5 +1,5 @@
 -- A valid module's instruction runs where the judgement holds: it reads values, and has an effect with them.
-use Rattle.std.proofs.Common.{◌≡◌, ℕ, ◌<◌, ◌==◌, ◌||◌, Bool, true, false, List, [], ◌∷◌, length, drop, slice_index, refl, ap, sym, ◌∙◌, Option, None, Some, is_some}
+use Rattle.std.proofs.Common.{◌≡◌, ℕ, ◌<◌, ◌==◌, ◌||◌, Bool, true, false, List, [], ◌∷◌, length, slice_index, refl, ap, sym, ◌∙◌, Option, None, Some, is_some}
 use Rattle.std.specs.List.{list_all}
 use Rattle.spirv_model.specs.declared.module.Inst.{Inst}
 use Rattle.spirv_model.specs.declared.module.Words.{Words}
@@ -32,7 +32,7 @@ use Rattle.typed_model.proofs.PlainRuns.{at_op, memory_runs, composite_runs, sca
 use Rattle.typed_model.proofs.ValidTypes.{valid_types}
 use Rattle.typed_model.proofs.ReadTypes.{Each}
 use Rattle.typed_model.proofs.UsedReads.{IsRead, memory_reads, composite_reads, scalar_uses, conditional_reads, switch_reads}
-use Rattle.typed_model.proofs.ReadValues.{IsSeen, uses_seen, typing_here, numbers_typed, HasValues, has_values}
+use Rattle.typed_model.proofs.ReadValues.{IsSeen, uses_seen, typing_here, numbers_typed, has_values}
 
 -- the instruction reads values, and runs with them
 pub record Does (insts : List Inst) (values : Values) (memory : Memory) (before : ℕ) (inst : Inst) : Type 0 where

@@ -7,7 +7,7 @@ use Rattle.spirv_model.specs.Operands.{word_at, entry_of, class_of, result}
 use Rattle.spirv_model.specs.declared.class.Class.{Class}
 use Rattle.spirv_model.specs.declared.class.Class.TheVariants as class
 use Rattle.body_model.specs.Classes.{is_plain_class, is_plain}
-use Rattle.valid_model.specs.Definitions.{gives, inst_at, id_twice}
+use Rattle.valid_model.specs.Definitions.{inst_at, id_twice}
 use Rattle.valid_model.specs.Knowledge.{Knowledge}
 use Rattle.valid_model.specs.Meanings.{known_of, known_before, meaning}
 use Rattle.check_model.specs.Typing.{type_id}

@@ -32,3 +32,4 @@ pub mod BlockParts
 pub mod FunctionParts
 pub mod BlockResults
 pub mod KeptSteps
+pub mod StepsDone
