@@ -33,3 +33,4 @@ pub mod FunctionParts
 pub mod BlockResults
 pub mod KeptSteps
 pub mod StepsDone
+pub mod FunctionRuns
