@@ -24,3 +24,13 @@ pub mod SilentSteps
 pub mod ModuleTyped
 pub mod ValidModules
 pub mod ValidFunctions
+pub mod ReadTypes
+pub mod UsedReads
+pub mod ReadValues
+pub mod InstructionsRun
+pub mod BlockParts
+pub mod FunctionParts
+pub mod BlockResults
+pub mod KeptSteps
+pub mod StepsDone
+pub mod FunctionRuns

@@ -38,7 +38,7 @@ class_defines (Some class.SpecConstant) is = refl
 class_defines (Some class.SpecConstantResult) is = refl
 class_defines of is = cc
 
-constant_known_by : (known : Knowledge) (inst : Inst) → is_constant inst.op ≡ true → (known_of known inst).meaning ≡ Constant (word_at 0 inst)
+pub constant_known_by : (known : Knowledge) (inst : Inst) → is_constant inst.op ≡ true → (known_of known inst).meaning ≡ Constant (word_at 0 inst)
 unfolding known_of
 constant_known_by known inst is = by_tests (is_type inst.op) (is_constant inst.op) (class_type (class_of inst.op) is) is
   where
@@ -50,14 +50,14 @@ constant_known_by known inst is = by_tests (is_type inst.op) (is_constant inst.o
 
 -- ---- the number of an OpConstant
 
-number_of : (inst : Inst) (word : ℕ) → constant_in inst ≡ Some word → (inst.op == op.CONSTANT ≡ true) × (word_at 2 inst ≡ word)
+pub number_of : (inst : Inst) (word : ℕ) → constant_in inst ≡ Some word → (inst.op == op.CONSTANT ≡ true) × (word_at 2 inst ≡ word)
 number_of inst word is = by_test (inst.op == op.CONSTANT) refl is
   where
     by_test : (b : Bool) → (inst.op == op.CONSTANT) ≡ b → (if b then Some (word_at 2 inst) else None) ≡ Some word → (inst.op == op.CONSTANT ≡ true) × (word_at 2 inst ≡ word)
     by_test true is_op is = (is_op, cc)
     by_test false is_op is = cc
 
-number_at : (insts : List Inst) (place id word : ℕ) → definition insts id ≡ Some place → constant_word insts id ≡ Some word → constant_in (inst_at insts place) ≡ Some word
+pub number_at : (insts : List Inst) (place id word : ℕ) → definition insts id ≡ Some place → constant_word insts id ≡ Some word → constant_in (inst_at insts place) ≡ Some word
 unfolding constant_word
 number_at insts place id word at is = sym (ap (option_and_then (λ place. constant_in (inst_at insts place))) at) ∙ is
 

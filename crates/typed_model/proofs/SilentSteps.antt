@@ -95,7 +95,7 @@ function_untyped : (known : Knowledge) (words : List ℕ) → type_id (known_of 
 unfolding known_of class_of entry_of
 function_untyped known words = refl
 
-given_id : (id : ℕ) (found : Option ℕ) → has_result id found ≡ true → found ≡ Some id
+pub given_id : (id : ℕ) (found : Option ℕ) → has_result id found ≡ true → found ≡ Some id
 given_id id None is = cc
 given_id id (Some own) is = ap Some (same own id is)
   where

@@ -17,6 +17,7 @@ use Rattle.check_model.specs.declared.fault.CheckFault.{CheckFault}
 use Rattle.check_model.specs.Intervals.{Interval, intervals_of}
 use Rattle.check_model.specs.Typing.{typing_of}
 use Rattle.check_model.specs.OperandTypes.{operands_fit}
+use Rattle.check_model.specs.Visibility.{not_visible}
 use Rattle.check_model.specs.Validity.{has_bad_operands, use_fault_of, use_fault_at, first_use_fault, use_fault, list_fault, IsValid}
 use Rattle.typed_model.specs.Modules.{IsSound}
 
@@ -113,7 +114,21 @@ list_fit intervals insts none place within =
     let used = (none_of_both _ _ (none_of_both _ _ none).1).0 in
     not_false (operands_fit (typing_of insts) (inst_at insts place)) (no_unfit place _ _ _ (no_first (use_fault_at intervals insts) (length insts) place used within))
 
+no_unseen : (place : ℕ) (unseen : Option ℕ) (unfit misplaced : Bool) → use_fault_of place unseen unfit misplaced ≡ None → unseen ≡ None
+no_unseen place (Some id) unfit misplaced is = cc
+no_unseen place None unfit misplaced is = refl
+
+pub list_seen : (intervals : List Interval) (insts : List Inst) → list_fault intervals insts ≡ None → (place : ℕ) → place < length insts → not_visible intervals insts place ≡ None
+unfolding list_fault use_fault use_fault_at
+list_seen intervals insts none place within =
+    let used = (none_of_both _ _ (none_of_both _ _ none).1).0 in
+    no_unseen place _ _ _ (no_first (use_fault_at intervals insts) (length insts) place used within)
+
 -- ---- all of it
+
+-- what an instruction of a valid module uses is visible
+pub valid_seen : (words : List ℕ) (read : Words) (v : IsValid words read) (place : ℕ) → place < length read.insts → not_visible (intervals_of v.valid.derivation) read.insts place ≡ None
+valid_seen words read v place within = list_seen (intervals_of v.valid.derivation) read.insts v.valid.faultless place within
 
 pub valid_sound : (words : List ℕ) (read : Words) → IsValid words read → IsSound read
 valid_sound words read v = record { sound = v.valid.sound; shaped = read_shaped words read v.reads; fit = list_fit (intervals_of v.valid.derivation) read.insts v.valid.faultless }

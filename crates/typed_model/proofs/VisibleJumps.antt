@@ -95,7 +95,7 @@ straight_last (first ∷ front) last more zero inst plain at less is =
 straight_last (first ∷ front) last more (suc index) inst plain at less is =
     let r = straight_last front last more index inst plain.1 at (omega (arith, less)) is in (ap (λ (n : ℕ). suc n) r.0, r.1)
 
-block_last : (insts : List Inst) (scope : Scope) (from : ℕ) (end : BlockEnd) (b : BlockAt insts scope from end) (place : ℕ) (inst : Inst) → from ≤ place → place < after_of end → slice_get insts place ≡ Some inst → is_terminator inst.op ≡ true
+pub block_last : (insts : List Inst) (scope : Scope) (from : ℕ) (end : BlockEnd) (b : BlockAt insts scope from end) (place : ℕ) (inst : Inst) → from ≤ place → place < after_of end → slice_get insts place ≡ Some inst → is_terminator inst.op ≡ true
     → (place + 1 ≡ after_of end) × (b.last ≡ inst)
 block_last insts scope from end b place inst low high at is =
     let e : from + (place - from) ≡ place = omega arith in
