@@ -10,8 +10,6 @@ mod refused_modules;
 #[cfg(test)]
 mod samples;
 #[cfg(test)]
-mod shaders;
-#[cfg(test)]
 mod tests;
 #[cfg(test)]
 mod valid_modules;
