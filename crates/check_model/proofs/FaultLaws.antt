@@ -1,9 +1,10 @@
--- Each list and bound is a valid module or has a fault, never both, and the fault is one; so it is with words.
+-- Each list and bound that can be written is a valid module or has a fault, never both, and the fault is one; so it is with words.
 use Rattle.std.proofs.Common.{◌≡◌, ℕ, List, Option, None, Some, Result, Ok, Err, ◌⊎◌, inl, inr, refl, ap, subst, ◌∙◌}
 use Rattle.spirv_model.specs.declared.module.Inst.{Inst}
 use Rattle.spirv_model.specs.declared.module.Words.{Words}
 use Rattle.spirv_model.specs.declared.module.WordsFault.{WordsFault}
-use Rattle.spirv_model.specs.Module.{module_of}
+use Rattle.spirv_model.specs.Module.{module_of, IsWritable}
+use Rattle.spirv_model.proofs.ReadModules.{read_writable}
 use Rattle.body_model.specs.declared.fault.TreeFault.{TreeFault}
 use Rattle.body_model.specs.Grammar.{Derives}
 use Rattle.body_model.specs.Faults.{HasFault}
@@ -28,11 +29,11 @@ same_some m x y a b = cc
 same_fault : (insts : List Inst) (d d' : Derives insts) → list_fault (intervals_of d) insts ≡ list_fault (intervals_of d') insts
 same_fault insts d d' = ap (λ (intervals : List Interval). list_fault intervals insts) (one_intervals insts d d')
 
-pub valid_or_faulty_list : (words : Words) → IsValidList words ⊎ ((reason : CheckFault) × HasListFault words reason)
-valid_or_faulty_list words = by_function (derives_or_faulty words.insts)
+pub valid_or_faulty_list : (words : Words) → IsWritable words → IsValidList words ⊎ ((reason : CheckFault) × HasListFault words reason)
+valid_or_faulty_list words writable = by_function (derives_or_faulty words.insts)
   where
     by_list : (d : Derives words.insts) → type_fault words ≡ None → (m : Option CheckFault) → list_fault (intervals_of d) words.insts ≡ m → IsValidList words ⊎ ((reason : CheckFault) × HasListFault words reason)
-    by_list d sound None is = inl (record { derivation = d; sound = sound; faultless = is })
+    by_list d sound None is = inl (record { writable = writable; derivation = d; sound = sound; faultless = is })
     by_list d sound (Some reason) is = inr (reason, of_list d sound is)
 
     by_ids : (d : Derives words.insts) (m : Option TypeFault) → type_fault words ≡ m → IsValidList words ⊎ ((reason : CheckFault) × HasListFault words reason)
@@ -81,7 +82,7 @@ valid_or_faulty words = by_words (module_of words) refl
     by_list read is (inr has) = inr (has.0, of_module read is has.1)
 
     by_words : (r : Result Words WordsFault) → module_of words ≡ r → ((read : Words) × IsValid words read) ⊎ ((reason : CheckFault) × HasModuleFault words reason)
-    by_words (Ok read) is = by_list read is (valid_or_faulty_list read)
+    by_words (Ok read) is = by_list read is (valid_or_faulty_list read (read_writable words read is))
     by_words (Err reason) is = inr (fault.Words reason, of_words is)
 
 pub one_valid : (words : List ℕ) (read read' : Words) → IsValid words read → IsValid words read' → read ≡ read'

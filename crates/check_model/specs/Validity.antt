@@ -5,7 +5,7 @@ use Rattle.std.specs.Option.{option_map, option_or}
 use Rattle.spirv_model.specs.declared.module.Inst.{Inst}
 use Rattle.spirv_model.specs.declared.module.Words.{Words}
 use Rattle.spirv_model.specs.declared.module.WordsFault.{WordsFault}
-use Rattle.spirv_model.specs.Module.{module_of}
+use Rattle.spirv_model.specs.Module.{module_of, IsWritable}
 use Rattle.body_model.specs.declared.fault.TreeFault.{TreeFault}
 use Rattle.body_model.specs.Grammar.{Derives}
 use Rattle.body_model.specs.Faults.{HasFault}
@@ -59,11 +59,12 @@ list_fault intervals insts =
 
 -- the instructions and the bound are a valid module
 pub record IsValidList (words : Words) : Type 0 where
+  pub writable : IsWritable words
   pub derivation : Derives words.insts
   pub sound : type_fault words ≡ None
   pub faultless : list_fault (intervals_of derivation) words.insts ≡ None
 
--- they are none, and this is the first fault
+-- they can be written, but are none, and this is the first fault
 pub data HasListFault (words : Words) : CheckFault → Type 0 where
   of_function : {reason : TreeFault} → HasFault words.insts reason → HasListFault words (fault.Tree reason)
   of_ids : {reason : TypeFault} → Derives words.insts → type_fault words ≡ Some reason → HasListFault words (fault.Ids reason)

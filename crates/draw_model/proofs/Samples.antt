@@ -1,5 +1,6 @@
 -- Worked values of the definitions, computed.
 use Rattle.std.proofs.Common.{◌≡◌, ℕ, List, [], ◌∷◌, true, false, Bool, Some, map, refl}
+use Rattle.draw_model.specs.declared.command.TheConstants.{DRAW_VERTICES}
 use Rattle.draw_model.specs.Coverage.{is_covered, is_guarded, edge_value, is_top_or_left, is_inside, is_inside_all, triangle_covers}
 use Rattle.draw_model.specs.Pixel.{passes_depth, stored_pixel, logic_result}
 use Rattle.state_model.specs.declared.parts.Topology.TheVariants.{Points, Triangles}
@@ -73,3 +74,6 @@ logic_results_of_one_pair :
     ≡ 0 ∷ 8 ∷ 4 ∷ 12 ∷ 2 ∷ 10 ∷ 6 ∷ 14 ∷ 0xffff_fff1 ∷ 0xffff_fff9 ∷ 0xffff_fff5 ∷ 0xffff_fffd ∷ 0xffff_fff3 ∷ 0xffff_fffb
     ∷ 0xffff_fff7 ∷ 0xffff_ffff ∷ []
 logic_results_of_one_pair = refl
+
+draw_vertices : DRAW_VERTICES ≡ 65536
+draw_vertices = refl

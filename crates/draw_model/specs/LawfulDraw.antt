@@ -2,7 +2,7 @@
 use Rattle.spirv_model.specs.declared.decoration.TheConstants.{SPEC_ID}
 use Rattle.valid_model.specs.DecorationWords.{decoration_of}
 use Rattle.state_model.specs.Canonical.{is_declared}
-use Rattle.std.specs.Prelude.{◌≡◌, true, ◌↔◌, ◌⊎◌, ℕ, ◌+◌, ◌^◌, ◌==◌, ◌<◌, ◌≤◌, List, Option, Some, length, slice_index, IfSome, IsNone, IsTrue}
+use Rattle.std.specs.Prelude.{◌≡◌, true, ◌↔◌, ◌⊎◌, ℕ, ◌+◌, ◌*◌, ◌^◌, ◌==◌, ◌<◌, ◌≤◌, List, Option, Some, length, slice_index, IfSome, IsNone, IsTrue}
 use Rattle.std.specs.List.{All, find}
 use Rattle.std.specs.Option.{option_map}
 use Rattle.limits.specs.declared.TheConstants.{MAX_SIDE, COMPONENTS, VERTEX_BINDINGS, DESCRIPTOR_SETS, DESCRIPTOR_BINDINGS, ATTACHMENTS, PUSH_WORDS}
@@ -16,6 +16,7 @@ use Rattle.state_model.specs.declared.parts.State.{State}
 use Rattle.state_model.specs.Lawful.{IsLawful, AllPresent}
 use Rattle.draw_model.specs.declared.command.Dynamic.{Dynamic}
 use Rattle.draw_model.specs.declared.command.DrawCall.{DrawCall}
+use Rattle.draw_model.specs.declared.command.TheConstants.{DRAW_VERTICES}
 use Rattle.draw_model.specs.declared.framebuffer.TheConstants.{DEPTH_FORMAT, MAX_LAYERS}
 use Rattle.draw_model.specs.declared.framebuffer.Target.{Target}
 use Rattle.draw_model.specs.declared.framebuffer.Targets.{Targets}
@@ -72,6 +73,7 @@ pub record IsCall (call : DrawCall) : Type 0 where
   pub vertices : IsWord call.vertices
   pub first_instance : IsWord call.first_instance
   pub instances : IsWord call.instances
+  pub few : call.vertices * call.instances ≤ DRAW_VERTICES
 
 pub record LawfulDraw (vs : List Inst) (fs : Option (List Inst)) (state : State) (dynamic : Dynamic) (call : DrawCall) (buffers : Buffers) (targets : Targets) : Type 0 where
   pub lawful : IsLawful state

@@ -2,6 +2,9 @@ use limits::{
     ATTACHMENTS, COMPONENTS, DESCRIPTOR_BINDINGS, DESCRIPTOR_SETS, PUSH_WORDS, VERTEX_BINDINGS,
 };
 
+/// Vertices times instances of one draw, at most.
+pub const DRAW_VERTICES: u32 = 65_536;
+
 /// What is set before a draw and is no part of the pipeline's state.
 #[derive(Debug, Drop)]
 pub struct Dynamic {
@@ -19,7 +22,8 @@ pub struct Dynamic {
     pub depth: Option<u16>,
 }
 
-/// Which vertices of which instances are drawn (Vulkan specification, "Programmable Primitive Shading", `vkCmdDraw`).
+/// Which vertices of which instances are drawn (Vulkan specification, "Programmable Primitive Shading", `vkCmdDraw`). The
+/// product of both counts is at most `DRAW_VERTICES`.
 #[derive(Clone, Copy, Debug, Drop, PartialEq, Eq)]
 pub struct DrawCall {
     /// The VertexIndex of the first vertex.

@@ -13,6 +13,7 @@ use Rattle.spirv_model.specs.declared.table.Entry.TheVariants.{Skipped, Float, L
 use Rattle.spirv_model.specs.declared.table.Row.{Row}
 use Rattle.spirv_model.specs.declared.table.TheConstants.{ROWS}
 use Rattle.spirv_model.specs.Operands.{entry_in, entry_of, kinds, kinds_in, listed_of, result, result_in}
+use Rattle.spirv_model.specs.Module.{fits_table}
 use Rattle.listing_model.specs.Names.{name_in, name_of, names, op_in, op_named}
 use Rattle.listing_model.specs.Listing.{id_text, after_space, fields_from, fields_in, inst_text, name_text, result_text}
 use Rattle.listing_model.specs.Spelling.{fields_of, first_number, first_op, named_fields, other_words, place_in, spoken_of, with_result}
@@ -152,9 +153,6 @@ told_of inst (Some (Listed class operands)) is k h good =
     told_by inst operands class n.0 is n.1
     (shaped (listed_of operands) operands.rest inst.words (first_of_both (has_shape (listed_of operands)) (is_good_name inst.op (name_in names inst.op)) g) k h)
 
-abbrev pub fitting : Inst → Bool
-fitting inst = is_some (kinds inst)
-
-pub told : (inst : Inst) → fitting inst ≡ true → are_words inst.words ≡ true → Told inst
+pub told : (inst : Inst) → fits_table inst ≡ true → are_words inst.words ≡ true → Told inst
 unfolding kinds entry_of
 told inst k h = told_of inst (entry_of inst.op) refl k h (λ entry is. good_entry ROWS inst.op entry all_good is)

@@ -1,62 +1,20 @@
 -- The listing of a module that is read is assembled to what is written of it.
-use Rattle.std.proofs.Common.{◌≡◌, ℕ, zero, suc, ◌+◌, ◌*◌, ◌/◌, ◌%◌, ◌<◌, ◌≤◌, ◌^◌, Bool, true, false, ◌&&◌, ◌==◌, not, cond, nat_lt, nat_le, if◌then◌else◌, List, [], ◌∷◌, ◌++◌, length, drop, slice_index, Option, None, Some, is_some, is_none, refl, ap, subst, sym, ◌∙◌, arith, length-append, length-drop}
-use Rattle.std.specs.Prelude.{MatchOption, Result, Ok, Err}
-use Rattle.std.specs.List.{flat_map, list_all}
+use Rattle.std.proofs.Common.{◌≡◌, ℕ, zero, suc, ◌<◌, ◌≤◌, ◌^◌, Bool, true, false, ◌&&◌, cond, not, List, [], ◌∷◌, ◌++◌, drop, slice_index, refl, ap, sym, ◌∙◌, arith}
+use Rattle.std.specs.Prelude.{Ok}
+use Rattle.std.specs.List.{flat_map}
 use Rattle.std.proofs.lemmas.Bool.Decides.{nat_tests}
 use Rattle.std.proofs.lemmas.List.Folds.{list_all-append}
-use Rattle.limits.specs.declared.TheConstants.{MODULE_WORDS, MAX_BOUND}
+use Rattle.limits.specs.declared.TheConstants.{MAX_BOUND}
 use Rattle.basics.proofs.Bools.{first_of_both, second_of_both}
 use Rattle.spirv_model.specs.declared.module.Inst.{Inst}
 use Rattle.spirv_model.specs.declared.module.Words.{Words}
-use Rattle.spirv_model.specs.declared.module.WordsFault.{WordsFault}
-use Rattle.spirv_model.specs.declared.module.WordsFault.TheVariants.{BadHeader, UnknownOp, BadShape, FloatType}
-use Rattle.spirv_model.specs.declared.module.TheConstants.{HEADER_WORDS, MAGIC}
-use Rattle.spirv_model.specs.declared.table.Operand.{Operand}
-use Rattle.spirv_model.specs.declared.table.Entry.{Entry}
-use Rattle.spirv_model.specs.declared.table.Entry.TheVariants.{Skipped, Float, Listed}
-use Rattle.spirv_model.specs.Operands.{entry_of, kinds}
-use Rattle.spirv_model.specs.Module.{Cut, Rest, begin, cut, fault_at, first_fault, floats, has_header, instruction_before, is_skipped, is_version, list_of_cut, listed, lists, module_of, module_words, onto, rest_of, skips, with_bound, words_of}
+use Rattle.spirv_model.specs.declared.module.TheConstants.{HEADER_WORDS}
+use Rattle.spirv_model.specs.Module.{cut, has_header, is_skipped, list_of_cut, listed, module_of, module_words, words_of}
+use Rattle.spirv_model.proofs.ReadModules.{header_is, list_read, read_writable}
 use Rattle.listing_model.specs.Listing.{listing_of}
 use Rattle.listing_model.specs.Assembly.{assembled}
 use Rattle.listing_model.specs.Meaning.{are_words, is_word}
-use Rattle.listing_model.proofs.Listings.{fitting}
 use Rattle.listing_model.proofs.Converse.{listing_assembled}
-
--- ---- what is cut is the words
-
-abbrev IsWhole : List ℕ → ℕ → Rest → Type 0
-IsWhole words n rest = MatchOption rest.0 ⊥ (λ front. (front ++ flat_map words_of (rest.1).insts ≡ words) × (length front ≡ n))
-
-onto_whole : (w n : ℕ) (words : List ℕ) (rest : Rest) → IsWhole words n rest → IsWhole (w ∷ words) (suc n) (onto w rest)
-onto_whole w n words (None, after) h = h
-onto_whole w n words (Some front, after) h = (ap (λ (ws : List ℕ). w ∷ ws) h.0, omega (arith, h.1))
-
-before_whole : (w more op : ℕ) (words : List ℕ) (rest : Rest) → w ≡ (more + 1) * 65536 + op → ((rest.1).broken ≡ None → IsWhole words more rest)
-    → (instruction_before op rest).broken ≡ None → flat_map words_of (instruction_before op rest).insts ≡ w ∷ words
-before_whole w more op words (None, after) is whole h = absurd (whole h)
-before_whole w more op words (Some front, after) is whole h =
-    let p = whole h in
-    let e : (length front + 1) * 65536 + op ≡ w = omega (arith, is, p.1) in
-    ap (λ (k : ℕ). k ∷ front ++ flat_map words_of after.insts) e ∙ ap (λ (ws : List ℕ). w ∷ ws) p.0
-
-begin_whole : (w count op : ℕ) (words : List ℕ) (rest : ℕ → Rest) → w ≡ count * 65536 + op → ((more : ℕ) → ((rest more).1).broken ≡ None → IsWhole words more (rest more))
-    → (begin op count rest).broken ≡ None → flat_map words_of (begin op count rest).insts ≡ w ∷ words
-begin_whole w zero op words rest is whole h = cc
-begin_whole w (suc more) op words rest is whole h = before_whole w more op words (rest more) (omega (arith, is)) (whole more) h
-
-rest_whole : (words : List ℕ) (n : ℕ) → ((rest_of words n).1).broken ≡ None → IsWhole words n (rest_of words n)
-rest_whole [] zero h = (refl, refl)
-rest_whole [] (suc n) h = cc
-rest_whole (w ∷ words) zero h = (begin_whole w (w / 65536) (w % 65536) words (rest_of words) (omega arith) (rest_whole words) h, refl)
-rest_whole (w ∷ words) (suc n) h = onto_whole w n words (rest_of words n) (rest_whole words n h)
-
-whole_front : (words : List ℕ) (rest : Rest) → IsWhole words 0 rest → flat_map words_of (rest.1).insts ≡ words
-whole_front words (None, after) h = absurd h
-whole_front words (Some [], after) h = h.0
-whole_front words (Some (w ∷ front), after) h = absurd (omega (arith, h.1))
-
-cut_whole : (words : List ℕ) → (cut words).broken ≡ None → flat_map words_of (cut words).insts ≡ words
-cut_whole words h = whole_front words (rest_of words 0) (rest_whole words 0 h)
 
 -- ---- the listed instructions
 
@@ -64,112 +22,23 @@ both_words : (xs ys : List ℕ) → are_words (xs ++ ys) ≡ true → (are_words
 both_words xs ys h =
     let both = sym (list_all-append is_word xs ys) ∙ h in (first_of_both (are_words xs) (are_words ys) both, second_of_both (are_words xs) (are_words ys) both)
 
--- the kept instructions' words are words, and no more than all
-abbrev Kept : List Inst → List Inst → Type 0
-Kept kept insts = (are_words (flat_map words_of kept) ≡ true) × (length (flat_map words_of kept) ≤ length (flat_map words_of insts))
+keep_by : (b : Bool) (inst : Inst) (kept : List Inst) → are_words (words_of inst) ≡ true → are_words (flat_map words_of kept) ≡ true → are_words (flat_map words_of (cond b (inst ∷ kept) kept)) ≡ true
+keep_by true inst kept one more = list_all-append is_word (words_of inst) (flat_map words_of kept) ∙ ap (λ (b : Bool). b && are_words (flat_map words_of kept)) one ∙ more
+keep_by false inst kept one more = more
 
-keep_by : (b : Bool) (inst : Inst) (kept insts : List Inst) → are_words (words_of inst) ≡ true → Kept kept insts → Kept (cond b (inst ∷ kept) kept) (inst ∷ insts)
-keep_by true inst kept insts one k = (
-  list_all-append is_word (words_of inst) (flat_map words_of kept) ∙ ap (λ (b : Bool). b && are_words (flat_map words_of kept)) one ∙ k.0,
-  omega (arith, k.1, length-append (words_of inst) (flat_map words_of kept), length-append (words_of inst) (flat_map words_of insts)),
-)
-keep_by false inst kept insts one k = (k.0, omega (arith, k.1, length-append (words_of inst) (flat_map words_of insts)))
-
-listed_kept : (insts : List Inst) → are_words (flat_map words_of insts) ≡ true → Kept (listed insts) insts
-listed_kept [] h = (refl, omega arith)
+-- the kept instructions' words are words
+listed_kept : (insts : List Inst) → are_words (flat_map words_of insts) ≡ true → are_words (flat_map words_of (listed insts)) ≡ true
+listed_kept [] h = refl
 listed_kept (inst ∷ insts) h =
     let b = both_words (words_of inst) (flat_map words_of insts) h in
-    keep_by (not (is_skipped inst)) inst (listed insts) insts b.0 (listed_kept insts b.1)
-
-sound_entry : (e : Option Entry) (k : Option (List Operand)) (op place : ℕ)
-    → (if is_none e then Some (UnknownOp op) else if lists e && is_none k then Some (BadShape place) else if floats e then Some FloatType else None) ≡ None
-    → skips e ≡ false → is_some k ≡ true
-sound_entry None k op place h s = cc
-sound_entry (Some Skipped) k op place h s = cc
-sound_entry (Some Float) k op place h s = cc
-sound_entry (Some (Listed class operands)) None op place h s = cc
-sound_entry (Some (Listed class operands)) (Some ks) op place h s = refl
-
-cons_fits : (b : Bool) (inst : Inst) (kept : List Inst) → (b ≡ false → fitting inst ≡ true) → list_all fitting kept ≡ true
-    → list_all fitting (cond (not b) (inst ∷ kept) kept) ≡ true
-cons_fits true inst kept one all = all
-cons_fits false inst kept one all = ap (λ (x : Bool). x && list_all fitting kept) (one refl) ∙ all
-
-no_fault : (o next : Option WordsFault) → ◌≡◌ {A = Option WordsFault} (elim o [ None ↦ next | Some f ↦ Some f ]) None → (o ≡ None) × (next ≡ None)
-no_fault None next h = (refl, h)
-no_fault (Some f) next h = cc
-
-listed_fit : (place : ℕ) (insts : List Inst) → first_fault place insts ≡ None → list_all fitting (listed insts) ≡ true
-listed_fit place [] h = refl
-listed_fit place (inst ∷ insts) h =
-    let n = no_fault (fault_at place inst) (first_fault (if is_skipped inst then place else place + 1) insts) h in
-    cons_fits (is_skipped inst) inst (listed insts) (sound_entry (entry_of inst.op) (kinds inst) inst.op place n.0)
-    (listed_fit (if is_skipped inst then place else place + 1) insts n.1)
+    keep_by (not (is_skipped inst)) inst (listed insts) b.0 (listed_kept insts b.1)
 
 -- ---- the module
-
-answer_is : (fault broken : Option WordsFault) (own insts : List Inst)
-    → ◌≡◌ {A = Result (List Inst) WordsFault} (elim fault [ Some f ↦ Err f | None ↦ elim broken [ Some f ↦ Err f | None ↦ Ok own ] ]) (Ok insts)
-    → (fault ≡ None) × (broken ≡ None) × (own ≡ insts)
-answer_is (Some f) broken own insts is = cc
-answer_is None (Some f) own insts is = cc
-answer_is None None own insts is = (refl, refl, cc)
-
--- what reading the words behind the header keeps
-pub record Read (words : List ℕ) (insts : List Inst) : Type 0 where
-  pub fit : list_all fitting insts ≡ true
-  pub kept : are_words (flat_map words_of insts) ≡ true
-  pub few : length (flat_map words_of insts) ≤ length words
-
-read_list : (words : List ℕ) (insts : List Inst) → list_of_cut 0 (cut words) ≡ Ok insts → are_words words ≡ true → Read words insts
-unfolding list_of_cut
-read_list words insts is h =
-    let a = answer_is (first_fault 0 (cut words).insts) (cut words).broken (listed (cut words).insts) insts is in
-    let whole = cut_whole words a.1 in
-    let k = listed_kept (cut words).insts (ap are_words whole ∙ h) in
-    subst (Read words) a.2 (record { fit = listed_fit 0 (cut words).insts a.0; kept = k.0; few = omega (arith, k.1, ap length whole) })
-
-bound_is : (bound : ℕ) (read : Result (List Inst) WordsFault) (m : Words) → with_bound bound read ≡ Ok m → (bound ≡ m.bound) × (read ≡ Ok m.insts)
-bound_is bound (Ok insts) m is = (cc, cc)
-bound_is bound (Err fault) m is = cc
-
-header_is : (header : Bool) (bound : ℕ) (read : Result (List Inst) WordsFault) (m : Words) → (if header then with_bound bound read else Err BadHeader) ≡ Ok m
-    → (header ≡ true) × (bound ≡ m.bound) × (read ≡ Ok m.insts)
-header_is true bound read m is = let b = bound_is bound read m is in (refl, b.0, b.1)
-header_is false bound read m is = cc
-
-list_fits : (c : Cut) (insts : List Inst) → list_of_cut 0 c ≡ Ok insts → list_all fitting insts ≡ true
-unfolding list_of_cut
-list_fits c insts h =
-    let a = answer_is (first_fault 0 c.insts) c.broken (listed c.insts) insts h in
-    ap (list_all fitting) (sym a.2) ∙ listed_fit 0 c.insts a.0
-
--- the instructions of a module that is read fit their operands
-pub module_fits : (words : List ℕ) (m : Words) → module_of words ≡ Ok m → list_all fitting m.insts ≡ true
-module_fits words m is =
-    list_fits (cut (drop HEADER_WORDS words)) m.insts
-    (header_is (has_header words) (slice_index words 3) (list_of_cut 0 (cut (drop HEADER_WORDS words))) m is).2
 
 words_behind : (n : ℕ) (words : List ℕ) → are_words words ≡ true → are_words (drop n words) ≡ true
 words_behind zero words h = h
 words_behind (suc n) [] h = refl
 words_behind (suc n) (w ∷ words) h = words_behind n words (second_of_both (is_word w) (are_words words) h)
-
-limits : (a b c d e f g : Bool) → (a && b && c && d && e && f && g) ≡ true → (a ≡ true) × (b ≡ true) × (e ≡ true) × (f ≡ true)
-limits true true true true true true true h = (refl, refl, refl, refl)
-limits false b c d e f g h = cc
-limits true false c d e f g h = cc
-limits true true false d e f g h = cc
-limits true true true false e f g h = cc
-limits true true true true false f g h = cc
-limits true true true true true false g h = cc
-limits true true true true true true false h = cc
-
-at_most : (n m : ℕ) → nat_le n m ≡ true → n ≤ m
-at_most n m h = grind (arith, nat_tests, h)
-
-positive : (n : ℕ) → nat_lt 0 n ≡ true → 1 ≤ n
-positive n h = grind (arith, nat_tests, h)
 
 word_bound : (n : ℕ) → n ≤ MAX_BOUND → is_word n ≡ true
 word_bound n h = let s : n < 2 ^ 32 = omega (arith, h) in grind (arith, nat_tests, s)
@@ -178,10 +47,9 @@ word_bound n h = let s : n < 2 ^ 32 = omega (arith, h) in grind (arith, nat_test
 pub listing_of_read : (words : List ℕ) (m : Words) → module_of words ≡ Ok m → are_words words ≡ true → assembled (listing_of m) ≡ Ok (module_words m.insts m.bound)
 listing_of_read words m is h =
     let header = header_is (has_header words) (slice_index words 3) (list_of_cut 0 (cut (drop HEADER_WORDS words))) m is in
-    let l = limits (nat_le HEADER_WORDS (length words)) (nat_le (length words) MODULE_WORDS) (slice_index words 0 == MAGIC) (is_version (slice_index words 1))
-    (nat_lt 0 (slice_index words 3)) (nat_le (slice_index words 3) MAX_BOUND) (slice_index words 4 == 0) header.0 in
-    let read = read_list (drop HEADER_WORDS words) m.insts header.2 (words_behind HEADER_WORDS words h) in
-    let most : m.bound ≤ MAX_BOUND = omega (arith, at_most (slice_index words 3) MAX_BOUND l.3, header.1) in
-    listing_assembled m.bound m.insts (omega (arith, positive (slice_index words 3) l.2, header.1)) most read.fit
-    (ap (λ (b : Bool). b && are_words (flat_map words_of m.insts)) (word_bound m.bound most) ∙ read.kept)
-    (omega (arith, read.few, length-drop HEADER_WORDS words, at_most HEADER_WORDS (length words) l.0, at_most (length words) MODULE_WORDS l.1))
+    let l = list_read (drop HEADER_WORDS words) m.insts header.2 in
+    let w = read_writable words m is in
+    let kept = listed_kept (cut (drop HEADER_WORDS words)).insts (ap are_words l.1 ∙ words_behind HEADER_WORDS words h) in
+    listing_assembled m.bound m.insts w.bound_least w.bound_most w.fit
+    (ap (λ (b : Bool). b && are_words (flat_map words_of m.insts)) (word_bound m.bound w.bound_most) ∙ ap (λ (i : List Inst). are_words (flat_map words_of i)) (sym l.0) ∙ kept)
+    w.few

@@ -1,4 +1,4 @@
 mod Constants
-pub mod ModuleSizes
 mod OpcodeRows
+pub mod ReadModules
 pub mod Samples

@@ -1,6 +1,6 @@
 -- The list of instructions of a module's words: cut by the length fields alone, without the skipped opcodes.
-use Rattle.std.specs.Prelude.{ℕ, zero, suc, ◌+◌, ◌*◌, ◌/◌, ◌%◌, Bool, true, false, not, ◌&&◌, ◌==◌, nat_lt, nat_le, if◌then◌else◌, List, [], ◌∷◌, length, drop, slice_index, Option, None, Some, is_none, Result, Ok, Err}
-use Rattle.std.specs.List.{filter, flat_map}
+use Rattle.std.specs.Prelude.{ℕ, zero, suc, ◌+◌, ◌*◌, ◌/◌, ◌%◌, ◌≡◌, ◌≤◌, Bool, true, false, not, ◌&&◌, ◌==◌, nat_lt, nat_le, if◌then◌else◌, List, [], ◌∷◌, length, drop, slice_index, Option, None, Some, is_none, is_some, Result, Ok, Err}
+use Rattle.std.specs.List.{filter, flat_map, list_all}
 use Rattle.std.specs.Option.{option_map}
 use Rattle.limits.specs.declared.TheConstants.{MODULE_WORDS, MAX_BOUND}
 use Rattle.spirv_model.specs.declared.module.Inst.{Inst}
@@ -142,6 +142,17 @@ words_of inst = first_word inst ∷ inst.words
 -- the words of a module with these instructions: the header with version 1.0 and generator 0, and each instruction's words
 abbrev pub module_words : List Inst → ℕ → List ℕ
 module_words insts bound = MAGIC ∷ VERSION ∷ 0 ∷ bound ∷ 0 ∷ flat_map words_of insts
+
+-- the words after the first are the operands that the table lists for the opcode
+abbrev pub fits_table : Inst → Bool
+fits_table inst = is_some (kinds inst)
+
+-- the instructions and the bound can be written as a module's words, and be read again
+pub record IsWritable (words : Words) : Type 0 where
+  pub fit : list_all fits_table words.insts ≡ true
+  pub bound_least : 1 ≤ words.bound
+  pub bound_most : words.bound ≤ MAX_BOUND
+  pub few : length (module_words words.insts words.bound) ≤ MODULE_WORDS
 
 -- want of memory
 abbrev pub is_memory : WordsFault → Bool

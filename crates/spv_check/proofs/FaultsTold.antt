@@ -6,8 +6,8 @@ use Rattle.spirv_model.specs.declared.module.Words.{Words}
 use Rattle.spirv_model.specs.declared.module.WordsFault.{WordsFault}
 use Rattle.spirv_model.specs.declared.module.WordsFault.TheVariants.{BadHeader, ZeroLength, CutShort, UnknownOp, BadShape, FloatType, Memory as WordsMemory}
 use Rattle.spirv_model.specs.Module as modules
-use Rattle.spirv_model.specs.Module.{module_of}
-use Rattle.spirv_model.proofs.ModuleSizes.{few_instructions}
+use Rattle.spirv_model.specs.Module.{module_of, IsWritable}
+use Rattle.spirv_model.proofs.ReadModules.{few_written, read_writable}
 use Rattle.body_model.specs.declared.fault.TreeFault.{TreeFault}
 use Rattle.body_model.specs.declared.fault.TreeFault.TheVariants.{BadBlock, BadMerge, BadExit, TooDeep, Memory as TreeMemory}
 use Rattle.body_model.specs.Grammar.{Derives}
@@ -72,9 +72,12 @@ of_read words answer reason found tells is found_is =
     subst (λ (f : CheckFault). FaultUnlessMemory is_memory (HasModuleFault words) f) (sym found_is)
     (words_told words reason (subst (λ (a : Result Words WordsFault). IsAnswer modules.is_memory (module_of words) a) is tells))
 
-pub few_read : (words : List ℕ) (answer : Result Words WordsFault) (read : Words) → IsAnswer modules.is_memory (module_of words) answer → answer ≡ Ok read → length read.insts < 2 ^ 32
-few_read words answer read tells is =
-    omega (arith, few_instructions words read (subst (λ (a : Result Words WordsFault). IsAnswer modules.is_memory (module_of words) a) is tells))
+pub writable_read : (words : List ℕ) (answer : Result Words WordsFault) (read : Words) → IsAnswer modules.is_memory (module_of words) answer → answer ≡ Ok read → IsWritable read
+writable_read words answer read tells is =
+    read_writable words read (subst (λ (a : Result Words WordsFault). IsAnswer modules.is_memory (module_of words) a) is tells)
+
+pub few_listed : (words : Words) → IsWritable words → length words.insts < 2 ^ 32
+few_listed words writable = omega (arith, few_written words writable)
 
 -- a call that fails with another's fault
 pub fails_too : {Value : Type 0} (HasValue : Value → Type 0) (Fails : CheckFault → Type 0) (answer : Result Value CheckFault) (reason : CheckFault) → answer ≡ Err reason

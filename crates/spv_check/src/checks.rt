@@ -2,7 +2,7 @@
 ghost use Rattle.std.specs.Prelude.{◌≡◌, ◌<◌, ◌^◌, length, Ok, IfOk, IfErr};
 ghost use Rattle.basics.specs.Answer.{UnlessMemory};
 ghost use Rattle.spirv_model.specs.declared.module.Words as declared;
-ghost use Rattle.spirv_model.specs.Module.{module_of};
+ghost use Rattle.spirv_model.specs.Module.{module_of, IsWritable};
 ghost use Rattle.body_model.specs.Grammar.{Derives};
 ghost use Rattle.check_model.specs.declared.fault.CheckFault as fault;
 ghost use Rattle.check_model.specs.declared.fault.CheckFault.TheVariants.{Memory};
@@ -41,10 +41,10 @@ pub fn check(alloc: Global, words: &[u32]) -> Result<Module, CheckFault>
     words_checked(alloc, words)
 }
 
-/// The module of instructions and a bound. Those that are no valid module are refused with their first fault. Places are
-/// 32-bit numbers.
+/// The module of instructions and a bound that can be written as words: the operands of each instruction are those of its
+/// opcode, and the words are few enough. Those that are no valid module are refused with their first fault.
 pub fn check_list(alloc: Global, words: Words) -> Result<Module, CheckFault>
-    requires { length words.insts < 2 ^ 32 }
+    requires { IsWritable words }
     ensures fault { UnlessMemory is_memory (IsMadeOf words) (HasListFault words) result }
     ensures exact { IsValidList words → IfErr result (λ fault. fault ≡ Memory) }
     ensures only { (fault : fault.CheckFault) → HasListFault words fault
@@ -61,7 +61,8 @@ fn words_checked(alloc: Global, words: &[u32]) -> Result<Module, CheckFault>
 }
 
 fn list_checked(alloc: Global, words: Words) -> Result<Module, CheckFault>
-    requires { length words.insts < 2 ^ 32 }
+    requires few { length words.insts < 2 ^ 32 }
+    requires writable { IsWritable words }
     ensures { UnlessMemory is_memory (IsMadeOf words) (HasListFault words) result }
 {
     let body = body_of(alloc, &words)?;
@@ -75,6 +76,7 @@ fn list_of(alloc: Global, words: &[u32]) -> Result<Words, CheckFault>
     ensures read { UnlessMemory is_memory (λ read. module_of words.now ≡ Ok read)
         (HasModuleFault words.now) result }
     ensures few { IfOk result (λ read. length read.insts < 2 ^ 32) }
+    ensures writable { IfOk result IsWritable }
 {
     match read_module(alloc, words) {
         Ok(read) => Ok(read),
@@ -142,6 +144,7 @@ fn checked_uses(
     hidden: &[Option<u32>],
 ) -> Result<Module, CheckFault>
     requires few { length words.insts < 2 ^ 32 }
+    requires writable { IsWritable words }
     requires tree { IsTreeOf words.insts body }
     requires ids { AreIdsOf words ids }
     requires for_each { length hidden.now ≡ length words.insts }

@@ -7,7 +7,7 @@ use Rattle.spirv_model.specs.declared.op.TheConstants as op
 use Rattle.body_model.specs.Grammar.{Derives}
 use Rattle.valid_model.specs.Definitions.{inst_at, no_instruction}
 use Rattle.check_model.specs.Intervals.{intervals_of}
-use Rattle.check_model.specs.Validity.{IsValid}
+use Rattle.check_model.specs.Validity.{IsValidList}
 use Rattle.stage_model.specs.Start.{Values, Memory}
 use Rattle.typed_model.specs.Judgement.{AreTyped}
 use Rattle.typed_model.proofs.ValidModules.{valid_sound, valid_seen}
@@ -23,12 +23,12 @@ part_at insts d place low high =
 pub function_within : (insts : List Inst) (d : Derives insts) (place : ℕ) → place < d.after → place < length insts
 function_within insts d place high = omega (arith, high, d.last)
 
-pub function_does : (words : List ℕ) (read : Words) (v : IsValid words read) (place : ℕ) → v.valid.derivation.before + 1 ≤ place → place < v.valid.derivation.after → (values : Values)
-    → AreTyped read.insts (intervals_of v.valid.derivation) place values → (memory : Memory) (before : ℕ) → (inst_at read.insts place).op == op.PHI ≡ false → (inst_at read.insts place).op == op.VARIABLE ≡ false
+pub function_does : (read : Words) (v : IsValidList read) (place : ℕ) → v.derivation.before + 1 ≤ place → place < v.derivation.after → (values : Values)
+    → AreTyped read.insts (intervals_of v.derivation) place values → (memory : Memory) (before : ℕ) → (inst_at read.insts place).op == op.PHI ≡ false → (inst_at read.insts place).op == op.VARIABLE ≡ false
     → Does read.insts values memory before (inst_at read.insts place)
-function_does words read v place low high values typed memory before no_phi no_variable =
-    let within = function_within read.insts v.valid.derivation place high in
-    by_part (part_at read.insts v.valid.derivation place low high) within
+function_does read v place low high values typed memory before no_phi no_variable =
+    let within = function_within read.insts v.derivation place high in
+    by_part (part_at read.insts v.derivation place low high) within
   where
     by_part : BlockPart (inst_at read.insts place) → place < length read.insts → Does read.insts values memory before (inst_at read.insts place)
     by_part (a_label is) within = label_does read.insts values memory before (inst_at read.insts place) is
@@ -36,5 +36,5 @@ function_does words read v place low high values typed memory before no_phi no_v
     by_part (a_variable is) within = cc
     by_part (a_selection_merge is) within = selection_merge_does read.insts values memory before (inst_at read.insts place) is
     by_part (a_loop_merge is) within = loop_merge_does read.insts values memory before (inst_at read.insts place) is
-    by_part (a_plain_one is) within = plain_does read (valid_sound words read v) (intervals_of v.valid.derivation) place within (valid_seen words read v place within) values typed memory before is
-    by_part (a_terminator is) within = terminator_does read (valid_sound words read v) (intervals_of v.valid.derivation) place within (valid_seen words read v place within) values typed memory before is
+    by_part (a_plain_one is) within = plain_does read (valid_sound read v) (intervals_of v.derivation) place within (valid_seen read v place within) values typed memory before is
+    by_part (a_terminator is) within = terminator_does read (valid_sound read v) (intervals_of v.derivation) place within (valid_seen read v place within) values typed memory before is

@@ -14,7 +14,7 @@ use Rattle.body_model.specs.Grammar.{IsOp, Begins, Derives}
 use Rattle.body_model.proofs.ModuleLevels.{within_list}
 use Rattle.valid_model.specs.Definitions.{inst_at, no_instruction}
 use Rattle.check_model.specs.Intervals.{inside, intervals_of}
-use Rattle.check_model.specs.Validity.{IsValid}
+use Rattle.check_model.specs.Validity.{IsValidList}
 use Rattle.stage_model.specs.Program.{program_of}
 use Rattle.stage_model.specs.Start.{defined_by}
 use Rattle.stage_model.proofs.StageRuns.{nowhere}
@@ -61,9 +61,9 @@ front_of read d =
     }
 
 -- at the function's first label each visible id with a type has a value that suits it, whatever is specialized
-pub valid_start : (words : List ℕ) (read : Words) (v : IsValid words read) (entries : SpecValues)
-    → AreTyped read.insts (intervals_of v.valid.derivation) (v.valid.derivation.before + 1) (defined_by (program_of read.insts) entries (take (v.valid.derivation.before + 1) read.insts))
-valid_start words read v entries = module_typed read entries (intervals_of v.valid.derivation) (valid_sound words read v) (v.valid.derivation.before + 1) (front_of read v.valid.derivation)
+pub valid_start : (read : Words) (v : IsValidList read) (entries : SpecValues)
+    → AreTyped read.insts (intervals_of v.derivation) (v.derivation.before + 1) (defined_by (program_of read.insts) entries (take (v.derivation.before + 1) read.insts))
+valid_start read v entries = module_typed read entries (intervals_of v.derivation) (valid_sound read v) (v.derivation.before + 1) (front_of read v.derivation)
 
 -- ---- along branches
 
