@@ -10,6 +10,10 @@ mod refused_modules;
 #[cfg(test)]
 mod samples;
 #[cfg(test)]
+mod shader_words;
+#[cfg(test)]
+mod shaders;
+#[cfg(test)]
 mod tests;
 #[cfg(test)]
 mod valid_modules;
