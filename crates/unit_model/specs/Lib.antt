@@ -1,0 +1,4 @@
+pub mod ConstantScalars
+pub mod Reduced
+pub mod UsedInterface
+pub mod UsedResults
