@@ -1,14 +1,14 @@
 -- An answer that is right where memory lasts is the only one.
 use Rattle.std.proofs.Common.{◌≡◌, ℕ, List, Bool, true, false, Result, Ok, Err, refl, ap, subst, sym, ◌∙◌}
 use Rattle.std.specs.Prelude.{IfErr, MatchBool}
-use Rattle.basics.specs.Answer.{UnlessMemory, FaultUnlessMemory}
+use Rattle.basics.specs.Answer.{UnlessMemory}
 use Rattle.spirv_model.specs.declared.module.Inst.{Inst}
 use Rattle.spirv_model.specs.declared.module.Words.{Words}
 use Rattle.spirv_model.specs.Module.{module_of}
 use Rattle.check_model.specs.declared.fault.CheckFault.{CheckFault}
 use Rattle.check_model.specs.declared.fault.CheckFault.TheVariants as fault
 use Rattle.check_model.specs.Validity.{IsValidList, HasListFault, IsValid, HasModuleFault, of_module, is_memory}
-use Rattle.check_model.proofs.FaultLaws.{not_both_of_list, one_fault_of_list, one_valid, not_both_of_words, one_fault_of_words}
+use Rattle.check_model.proofs.FaultLaws.{not_both_of_list, one_fault_of_list, not_both_of_words, one_fault_of_words}
 use Rattle.spv_check.specs.Modules.{IsMadeOf}
 
 memory_is : (reason : CheckFault) → is_memory reason ≡ true → reason ≡ fault.Memory

@@ -1,6 +1,5 @@
 -- The list of the first ids that aren't visible, place by place.
 use Rattle.std.proofs.Common.{◌≡◌, ℕ, ◌+◌, ◌<◌, List, [], ◌∷◌, ◌++◌, length, Option, None, ap, ◌∙◌, inl, inr, arith, get_or}
-use Rattle.std.specs.Prelude.{◌⊎◌}
 use Rattle.std.proofs.lemmas.Bool.{cases_lt}
 use Rattle.std.proofs.lemmas.List.{length_push, get_or_push, get_or_append_left}
 use Rattle.spirv_model.specs.declared.module.Inst.{Inst}

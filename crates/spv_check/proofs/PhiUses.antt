@@ -1,5 +1,5 @@
 -- What a phi uses, and which blocks it names.
-use Rattle.std.proofs.Common.{◌≡◌, ℕ, zero, suc, ◌+◌, ◌<◌, ◌≤◌, ◌==◌, Bool, true, false, not, ◌&&◌, ◌||◌, nat_lt, if◌then◌else◌, List, [], ◌∷◌, ◌++◌, length, map, take, drop, Option, None, Some, refl, ap, subst, sym, ◌∙◌, arith, get_or}
+use Rattle.std.proofs.Common.{◌≡◌, ℕ, ◌+◌, ◌<◌, ◌≤◌, ◌==◌, Bool, true, false, not, ◌&&◌, ◌||◌, if◌then◌else◌, List, [], ◌∷◌, ◌++◌, length, map, take, drop, Option, None, Some, refl, ap, sym, ◌∙◌, arith}
 use Rattle.std.specs.List.{find}
 use Rattle.std.specs.Option.{option_map, unwrap_or}
 use Rattle.std.proofs.lemmas.Bool.{eq-eqb, ne_eqb}
@@ -12,11 +12,10 @@ use Rattle.body_model.specs.Grammar.{Derives}
 use Rattle.body_model.specs.Switches.{is_among, repeat}
 use Rattle.body_model.specs.Targets.{targets}
 use Rattle.valid_model.specs.Definitions.{definition, inst_at}
-use Rattle.check_model.specs.Intervals.{Interval, intervals_of}
-use Rattle.check_model.specs.Branches.{Block, blocks_from, blocks_of, predecessors, is_labelled, block_end_of, label_behind}
+use Rattle.check_model.specs.Intervals.{intervals_of}
+use Rattle.check_model.specs.Branches.{Block, blocks_from, blocks_of, is_labelled, block_end_of, label_behind}
 use Rattle.check_model.specs.Visibility.{Use, use_at, Incoming, incoming_in, incoming_use, are_those, names_predecessors, used_ids, uses_at, is_defined_for, is_visible_use, not_visible}
 use Rattle.spv_types.specs.declared.ids.Ids.{Ids}
-use Rattle.spv_types.specs.Answers.{place_at}
 use Rattle.spv_tree.proofs.Among.{among_push}
 use Rattle.spv_check.specs.declared.branches.Branches.{Branches}
 use Rattle.spv_check.specs.Branches.{label_at, end_at, sources_at}

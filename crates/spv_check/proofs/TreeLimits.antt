@@ -4,7 +4,7 @@ use Rattle.std.specs.Prelude.{replicate, slice_get, Result, OnOk}
 use Rattle.std.proofs.Math.Bool.{and-true}
 use Rattle.std.proofs.lemmas.Bool.{lt-ltb, ltb-true}
 use Rattle.std.proofs.lemmas.Result.{on_ok_weaker}
-use Rattle.std.proofs.lemmas.List.{length-append, length-replicate, take_more, take_all}
+use Rattle.std.proofs.lemmas.List.{take_more, take_all}
 use Rattle.spirv_model.specs.declared.module.Inst.{Inst}
 use Rattle.body_model.specs.declared.scope.End.{End}
 use Rattle.body_model.specs.declared.block_end.BlockEnd.TheVariants.{Ends, GoesOn, Selects, Picks, Loops}
@@ -12,7 +12,7 @@ use Rattle.body_model.specs.Scope.{Scope}
 use Rattle.body_model.specs.Switches.{cases_of, switch_words}
 use Rattle.body_model.specs.Grammar.{Sequence, ends, goes_on, selects, picks, loops, Arm, straight, through, Arms, no_arm, arm_behind, Derives}
 use Rattle.body_model.proofs.Ends.{Between}
-use Rattle.body_model.proofs.Forward.{sound_at, forward, arm_forward, arms_forward}
+use Rattle.body_model.proofs.Forward.{sound_at, forward, arm_forward}
 use Rattle.check_model.specs.Intervals.{Interval, around, inside, of_arm, of_arms, intervals_of, is_visible}
 use Rattle.check_model.proofs.NestedIntervals.{Bounds, keeps, no_places, own_places, placed, enclosed}
 use Rattle.spv_tree.specs.declared.tree.Block.{Block}
@@ -27,7 +27,7 @@ use Rattle.spv_tree.specs.declared.tree.Node.TheFolds.{map-Choice, fold-roll-Nod
 use Rattle.spv_tree.specs.declared.tree.Round.{Round, out-Round}
 use Rattle.spv_tree.specs.declared.tree.Run.{Run, out-Run}
 use Rattle.spv_tree.specs.Trees.{IsTreeOf, block_at, choice, pick, numbered, arm_number, labels_in, round, run, nodes_of, end_of, run_of, arm_of, runs_of, pick_of}
-use Rattle.spv_check.specs.SequenceLimits.{AreLimits, Limits, Mark, nested, of_block, end_behind, front, spread, joined, of_node, of_choice, of_pick, of_round, of_run, node_mark, choice_limits, pick_limits, round_limits, run_limits, nodes_limits, run_end, run_front, way_limits, runs_limits}
+use Rattle.spv_check.specs.SequenceLimits.{AreLimits, Limits, Mark, nested, of_block, end_behind, front, of_node, of_choice, of_pick, of_round, of_run, node_mark, choice_limits, pick_limits, round_limits, run_limits, nodes_limits, run_end, run_front, way_limits, runs_limits}
 
 -- ---- one level of a tree
 

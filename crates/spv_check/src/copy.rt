@@ -1,12 +1,24 @@
-//! Copies of modules.
+//! Modules that are known to be valid, and copies.
 ghost use Rattle.std.specs.Prelude.{◌≡◌, IfOk};
 ghost use Rattle.check_model.specs.declared.fault.CheckFault.TheVariants.{Memory};
+ghost use Rattle.check_model.specs.Validity.{IsValidList};
 
 use crate::checks::check_list;
 use crate::module::Module;
 use check_model::CheckFault;
 use spirv_model::{Inst, Items, Words};
 use std::alloc::{AllocError, Global};
+
+/// The module of instructions and a bound that are known to be valid, so that only want of memory is an error.
+pub fn valid_module(alloc: Global, words: Words) -> Result<Module, AllocError>
+    requires { IsValidList words }
+    ensures { IfOk result (λ made. made ≡ words) }
+{
+    match check_list(alloc, words) {
+        Ok(module) => Ok(module),
+        Err(fault) => Err(want_of_memory(fault)),
+    }
+}
 
 impl Module {
     /// An equal module.
@@ -15,10 +27,7 @@ impl Module {
     {
         let insts = copies(alloc, self.insts())?;
         let bound = self.bound();
-        match check_list(alloc, Words { bound, insts }) {
-            Ok(copy) => Ok(copy),
-            Err(fault) => Err(want_of_memory(fault)),
-        }
+        valid_module(alloc, Words { bound, insts })
     }
 }
 

@@ -24,6 +24,7 @@ mod visibility;
 
 pub use check_model::{CheckFault, Stage};
 pub use checks::{check, check_list};
+pub use copy::valid_module;
 pub use module::Module;
 
 #[cfg(test)]

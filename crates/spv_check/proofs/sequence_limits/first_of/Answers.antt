@@ -1,4 +1,4 @@
-use Rattle.std.proofs.Common.{ap, sym, ◌∙◌}
+use Rattle.std.proofs.Common.{ap, sym}
 use Rattle.spv_check.specs.SequenceLimits.{Mark}
 use Rattle.spv_check.proofs.TreeLimits.{marked_block, marked_choice, marked_pick, marked_round}
 use Rattle.spv_check.proofs.sequence_limits.first_of.Goals as goal
