@@ -25,12 +25,13 @@ pub record LabelAt (insts : List Inst) (place : ℕ) : Type 0 where
   pub at : slice_get insts place ≡ Some inst
   pub is : inst.op == LABEL ≡ true
 
--- a part of a block stands at the place; a label behind it, where it is a terminator that isn't the last one up to an end; and else a further part
+-- a part of a block stands at the place; a label behind it, where it is a terminator that isn't the last one up to an end; and else a further part, which is no label
 pub record Fits (insts : List Inst) (to place : ℕ) : Type 0 where
   pub inst : Inst
   pub at : slice_get insts place ≡ Some inst
   pub part : BlockPart inst
   pub on : is_terminator inst.op ≡ false → place + 1 < to
+  pub inside : is_terminator inst.op ≡ false → (other : Inst) → slice_get insts (place + 1) ≡ Some other → other.op == LABEL ≡ false
   pub next : is_terminator inst.op ≡ true → place + 1 < to → LabelAt insts (place + 1)
 
 -- parts of blocks stand from a place up to another one, a label first
@@ -44,6 +45,7 @@ fits_on insts middle to place less more f starts = record {
   at = f.at;
   part = f.part;
   on = λ isnt. omega (arith, f.on isnt, more);
+  inside = f.inside;
   next = λ is low. elim (cases_lt (place + 1) middle) [
     | inl early ↦ f.next is early
     | inr late ↦ elim starts [
@@ -73,7 +75,7 @@ found_front [] last behind (suc index) less = absurd (omega arith)
 found_front (first ∷ front) last behind zero less = (first, refl)
 found_front (first ∷ front) last behind (suc index) less = found_front front last behind index (omega (arith, less))
 
-last_of : (front : List Inst) (last : Inst) (behind : List Inst) → slice_get (front ++ last ∷ behind) (length front) ≡ Some last
+pub last_of : (front : List Inst) (last : Inst) (behind : List Inst) → slice_get (front ++ last ∷ behind) (length front) ≡ Some last
 last_of [] last behind = refl
 last_of (first ∷ front) last behind = last_of front last behind
 
@@ -91,13 +93,11 @@ block_fits insts scope wanted from end due is whole place low high =
       inst = found.0;
       at = at;
       part = (block_parts insts scope wanted from end due is whole).parts (place - from) found.0 here (omega (arith, e, high));
-      on = λ isnt. elim (cases_lt (place + 1) (after_of end)) [
-        | inl early ↦ early
-        | inr late ↦
-            let k : place - from ≡ length b.front = omega (arith, b.after, late, high) in
-            let l : b.last ≡ found.0 = same_inst _ b.last found.0 (ap (slice_get (b.front ++ b.last ∷ b.behind)) k ∙ last_of b.front b.last b.behind) found.1 in
-            absurd (clash (is_terminator b.last.op) b.terminator (ap (λ (i : Inst). is_terminator i.op) l ∙ isnt))
-      ];
+      on = on found.0 found.1;
+      inside = λ isnt other behind.
+          let n : from + suc (place - from) ≡ place + 1 = omega (arith, e) in
+          let less = on found.0 found.1 isnt in
+          ((block_parts insts scope wanted from end due is whole).later (place - from) other (slice_get-drop from (suc (place - from)) insts ∙ ap (slice_get insts) n ∙ behind) (omega (arith, n, less))).no_label;
       next = λ ending more. let l = block_last insts scope from end b place found.0 low high at ending in absurd (omega (arith, l.0, more));
     }
   where
@@ -105,7 +105,18 @@ block_fits insts scope wanted from end due is whole place low high =
     clash true is isnt = cc
     clash false is isnt = cc
 
-label_due : (insts : List Inst) (wanted : Option ℕ) (from : ℕ) → IsDue insts wanted from → LabelAt insts from
+    on : (found : Inst) → slice_get ((block_at insts scope wanted from end due is whole).front ++ (block_at insts scope wanted from end due is whole).last ∷ (block_at insts scope wanted from end due is whole).behind) (place - from) ≡ Some found
+        → is_terminator found.op ≡ false → place + 1 < after_of end
+    on found here isnt = elim (cases_lt (place + 1) (after_of end)) [
+      | inl early ↦ early
+      | inr late ↦
+          let b = block_at insts scope wanted from end due is whole in
+          let k : place - from ≡ length b.front = omega (arith, b.after, late, high) in
+          let l : b.last ≡ found = same_inst _ b.last found (ap (slice_get (b.front ++ b.last ∷ b.behind)) k ∙ last_of b.front b.last b.behind) here in
+          absurd (clash (is_terminator b.last.op) b.terminator (ap (λ (i : Inst). is_terminator i.op) l ∙ isnt))
+    ]
+
+pub label_due : (insts : List Inst) (wanted : Option ℕ) (from : ℕ) → IsDue insts wanted from → LabelAt insts from
 label_due insts wanted from due =
     let s = stands_at insts (only wanted) from due in
     let e : from + 0 ≡ from = omega arith in
@@ -154,6 +165,6 @@ mutual
   arms_fill insts {from = from} {to = to} (arm_behind label between before arms among is sequence) =
       let q = forward insts sequence in joined insts from between to (arms_forward insts arms) (omega (arith, q.forward)) (arms_fill insts arms) (fills insts sequence)
 
--- each instruction from the function's first label up to its end is a part of a block, with a label or a further part behind it
+-- each instruction from the function's first label up to its end is a part of a block, with a label or a further part that is none behind it
 pub function_fits : (insts : List Inst) (d : Derives insts) (place : ℕ) → d.before + 1 ≤ place → place < d.after → Fits insts d.after place
 function_fits insts d place low high = (fills insts d.sequence).each place low high

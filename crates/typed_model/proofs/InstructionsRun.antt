@@ -1,5 +1,5 @@
 -- A valid module's instruction runs where the judgement holds: it reads values, and has an effect with them.
-use Rattle.std.proofs.Common.{◌≡◌, ℕ, ◌<◌, ◌==◌, ◌||◌, Bool, true, false, List, [], ◌∷◌, length, slice_index, refl, ap, sym, ◌∙◌, Option, None, Some, is_some}
+use Rattle.std.proofs.Common.{◌≡◌, ℕ, ◌<◌, ◌==◌, ◌||◌, Bool, true, false, List, [], ◌∷◌, length, slice_index, refl, ap, sym, ◌∙◌, subst, Option, None, Some, is_some}
 use Rattle.std.specs.List.{list_all}
 use Rattle.spirv_model.specs.declared.module.Inst.{Inst}
 use Rattle.spirv_model.specs.declared.module.Words.{Words}
@@ -34,10 +34,11 @@ use Rattle.typed_model.proofs.ReadTypes.{Each}
 use Rattle.typed_model.proofs.UsedReads.{IsRead, memory_reads, composite_reads, scalar_uses, conditional_reads, switch_reads}
 use Rattle.typed_model.proofs.ReadValues.{IsSeen, uses_seen, typing_here, numbers_typed, has_values}
 
--- the instruction reads values, and runs with them
+-- the instruction reads values that suit their ids, and runs with them
 pub record Does (insts : List Inst) (values : Values) (memory : Memory) (before : ℕ) (inst : Inst) : Type 0 where
   pub read : List Value
   pub are : all_values values (read_ids inst.op before inst.words) ≡ Some read
+  pub suit : AllSuit (program_of insts) (constant_word insts) (read_ids inst.op before inst.words) read
   pub runs : Runs (program_of insts) memory inst read
 
 -- ---- what is known of an instruction
@@ -66,7 +67,10 @@ does_by : (insts : List Inst) (intervals : List Interval) (place : ℕ) (values 
     → ((read : List Value) → AllSuit (program_of insts) (constant_word insts) (read_ids inst.op before inst.words) read → Runs (program_of insts) memory inst read) → Does insts values memory before inst
 does_by insts intervals place values memory before inst typed reads runs =
     let h = has_values insts intervals place (vertex_of insts) values typed (read_ids inst.op before inst.words) reads in
-    record { read = h.read; are = h.are; runs = runs h.read h.suit }
+    record { read = h.read; are = h.are; suit = h.suit; runs = runs h.read h.suit }
+
+none_suit : (insts : List Inst) (ids : List ℕ) → ids ≡ [] → AllSuit (program_of insts) (constant_word insts) ids []
+none_suit insts ids none = subst (λ ids. AllSuit (program_of insts) (constant_word insts) ids []) (sym none) tt
 
 -- ---- plain instructions
 
@@ -76,7 +80,7 @@ undef_reads before words = refl
 
 undef_does : (insts : List Inst) → HasTypes (program_of insts) → (values : Values) (memory : Memory) (before : ℕ) (words : List ℕ) → is_data ((program_of insts).meaning (slice_index words 0)) ≡ true → Does insts values memory before (instruction op.UNDEF words)
 undef_does insts types values memory before words fit =
-    record { read = []; are = ap (all_values values) (undef_reads before words); runs = undef_runs (program_of insts) types memory words [] fit }
+    record { read = []; are = ap (all_values values) (undef_reads before words); suit = none_suit insts (read_ids op.UNDEF before words) (undef_reads before words); runs = undef_runs (program_of insts) types memory words [] fit }
 
 plain_by : (insts : List Inst) (intervals : List Interval) (place : ℕ) (values : Values) (memory : Memory) (before : ℕ) (inst : Inst) → Known insts intervals place values inst → (of : Option Class) → class_of inst.op ≡ of
     → operands_fit_class (typing_here insts (vertex_of insts)) of inst ≡ true → is_plain_class of ≡ true → Does insts values memory before inst
@@ -121,7 +125,7 @@ plain_does words s intervals place within seen values typed memory before plain 
 
 nothing_read : (insts : List Inst) (values : Values) (memory : Memory) (before : ℕ) (inst : Inst) (effect : Effect) → read_ids inst.op before inst.words ≡ [] → effect_of (program_of insts) memory inst [] ≡ Some effect
     → IsTypedEffect (program_of insts) inst effect → Does insts values memory before inst
-nothing_read insts values memory before inst effect none is typed = record { read = []; are = ap (all_values values) none; runs = record { effect = effect; is = is; typed = typed } }
+nothing_read insts values memory before inst effect none is typed = record { read = []; are = ap (all_values values) none; suit = none_suit insts (read_ids inst.op before inst.words) none; runs = record { effect = effect; is = is; typed = typed } }
 
 label_words : (insts : List Inst) (values : Values) (memory : Memory) (before : ℕ) (words : List ℕ) → Does insts values memory before (instruction op.LABEL words)
 unfolding read_ids class_of entry_of effect_of

@@ -34,3 +34,5 @@ pub mod BlockResults
 pub mod KeptSteps
 pub mod StepsDone
 pub mod FunctionRuns
+pub mod FirstBlocks
+pub mod BlockLists

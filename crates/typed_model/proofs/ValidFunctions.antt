@@ -48,7 +48,8 @@ level_at insts before place begins less long =
     let is : IsTrue (is_module_level (get_or (take before insts) place no_instruction).op) = begins.module_level place no_instruction (omega (arith, length-take-le before insts)) in
     sym (ap (λ (i : Inst). is_module_level i.op) (get_or-take before insts place no_instruction less)) ∙ is
 
-front_of : (read : Words) (d : Derives read.insts) → IsFront read (d.before + 1)
+-- only the module's level and OpFunction stand before the function
+pub front_of : (read : Words) (d : Derives read.insts) → IsFront read (d.before + 1)
 front_of read d =
     let long = within_list FUNCTION read.insts d.before d.begins.function in
     record {
