@@ -16,6 +16,7 @@ use Rattle.body_model.proofs.Shapes.{after_of, IsWhole}
 use Rattle.body_model.proofs.Slices.{slice_get-drop}
 use Rattle.body_model.proofs.Forward.{forward, arm_forward, arms_forward}
 use Rattle.stage_model.proofs.WholeBlocks.{block_at}
+use Rattle.stage_model.proofs.CodeRuns.{due_of}
 use Rattle.typed_model.proofs.VisibleJumps.{block_last}
 use Rattle.typed_model.proofs.BlockParts.{BlockPart, block_parts}
 
@@ -168,3 +169,10 @@ mutual
 -- each instruction from the function's first label up to its end is a part of a block, with a label or a further part that is none behind it
 pub function_fits : (insts : List Inst) (d : Derives insts) (place : ℕ) → d.before + 1 ≤ place → place < d.after → Fits insts d.after place
 function_fits insts d place low high = (fills insts d.sequence).each place low high
+
+-- an OpLabel stands first
+pub function_starts : (insts : List Inst) (d : Derives insts) → LabelAt insts (d.before + 1)
+function_starts insts d = by_sequence d.sequence
+  where
+    by_sequence : {scope : Scope} {wanted next : Option ℕ} {from to : ℕ} → Sequence insts scope wanted from to next → LabelAt insts from
+    by_sequence {wanted = wanted} {from = from} s = label_due insts wanted from (due_of s)

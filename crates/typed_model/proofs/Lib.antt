@@ -36,3 +36,4 @@ pub mod StepsDone
 pub mod FunctionRuns
 pub mod FirstBlocks
 pub mod BlockLists
+pub mod LabelsBefore
