@@ -37,3 +37,4 @@ pub mod FunctionRuns
 pub mod FirstBlocks
 pub mod BlockLists
 pub mod LabelsBefore
+pub mod PhiRuns
