@@ -145,6 +145,60 @@ plain_kept insts intervals place values memory read within once plain r typed = 
     by_store true is = store_kept insts intervals place values memory read is r typed
     by_store false isnt = value_kept insts intervals place values memory read within once (plain_gives (class_of (inst_at insts place).op) plain) isnt r typed
 
+-- ---- what their effects are
+
+-- an effect of an instruction that is no label and no terminator
+abbrev pub IsInner : Effect → Type 0
+IsInner Passes = Unit {0}
+IsInner (Gives value) = Unit {0}
+IsInner (Writes variable at words) = Unit {0}
+IsInner effect = ⊥
+
+inner_by : (effect own : Effect) → IsInner own → Some own ≡ Some effect → IsInner effect
+inner_by effect own inner is = subst IsInner (same_effect own effect is) inner
+  where
+    same_effect : (a b : Effect) → Some a ≡ Some b → a ≡ b
+    same_effect a b is = cc
+
+stored_inner : (program : Program) (words : List ℕ) (pointer : Value) (effect : Effect) → stored program words pointer ≡ Some effect → IsInner effect
+stored_inner program words (Pointer variable indices) effect is = by_place (place_of program variable indices) is
+  where
+    by_place : (place : Option ℕ) → option_map (λ place. Writes variable place words) place ≡ Some effect → IsInner effect
+    by_place None is = cc
+    by_place (Some place) is = inner_by effect (Writes variable place words) tt is
+stored_inner program words Outside effect is = inner_by effect Passes tt is
+stored_inner program words (Truth b) effect is = cc
+stored_inner program words (Word word) effect is = cc
+stored_inner program words (Composite parts) effect is = cc
+
+stores_inner : (program : Program) (read : List Value) (effect : Effect) → stores program read ≡ Some effect → IsInner effect
+stores_inner program (pointer ∷ object ∷ []) effect is = by_words (words_of object) is
+  where
+    by_words : (words : Option (List ℕ)) → option_and_then (λ words. stored program words pointer) words ≡ Some effect → IsInner effect
+    by_words None is = cc
+    by_words (Some words) is = stored_inner program words pointer effect is
+stores_inner program [] effect is = cc
+stores_inner program (pointer ∷ []) effect is = cc
+stores_inner program (pointer ∷ object ∷ more ∷ read) effect is = cc
+
+abbrev StoresInner : Program → Memory → List Value → Inst → Type 0
+StoresInner program memory read inst = (effect : Effect) → effect_of program memory inst read ≡ Some effect → IsInner effect
+
+store_inner : (program : Program) (memory : Memory) (read : List Value) (words : List ℕ) → StoresInner program memory read (instruction op.STORE words)
+unfolding effect_of
+store_inner program memory read words effect is = stores_inner program read effect is
+
+-- an instruction that gives a value, OpPhi among them
+pub value_inner : (program : Program) (memory : Memory) (inst : Inst) (read : List Value) (effect : Effect) → has_result_class (class_of inst.op) ≡ true → inst.op == op.STORE ≡ false → effect_of program memory inst read ≡ Some effect → IsInner effect
+value_inner program memory inst read effect gives isnt is = subst IsInner (sym (given_by _ effect (sym (value_effect program memory inst read gives isnt) ∙ is)).1) tt
+
+pub plain_inner : (program : Program) (memory : Memory) (inst : Inst) (read : List Value) (effect : Effect) → is_plain inst.op ≡ true → effect_of program memory inst read ≡ Some effect → IsInner effect
+plain_inner program memory inst read effect plain is = by_store (inst.op == op.STORE) refl
+  where
+    by_store : (b : Bool) → inst.op == op.STORE ≡ b → IsInner effect
+    by_store true store = at_op (StoresInner program memory read) inst op.STORE store (store_inner program memory read inst.words) effect is
+    by_store false isnt = value_inner program memory inst read effect (plain_gives (class_of inst.op) plain) isnt is
+
 -- ---- labels, merge instructions and variables
 
 untyped_kept : (insts : List Inst) (intervals : List Interval) (place : ℕ) (values : Values) → place < length insts → id_twice insts place ≡ None
@@ -186,7 +240,7 @@ pub loop_merge_kept : (insts : List Inst) (intervals : List Interval) (place : �
 loop_merge_kept insts intervals place values is typed =
     none_kept insts intervals place values (at_op (λ inst. result inst ≡ None) (inst_at insts place) op.LOOP_MERGE is (loop_result (inst_at insts place).words)) typed
 
-variable_class : defines (class_of op.VARIABLE) ≡ true
+pub variable_class : defines (class_of op.VARIABLE) ≡ true
 unfolding class_of entry_of
 variable_class = refl
 

@@ -38,3 +38,6 @@ pub mod FirstBlocks
 pub mod BlockLists
 pub mod LabelsBefore
 pub mod PhiRuns
+pub mod VariableRuns
+pub mod RunningDoes
+pub mod RunningSteps

@@ -119,7 +119,7 @@ undef_suits insts place value within once is defined of =
     same_type : (a b : ℕ) → ◌≡◌ {A = Option ℕ} (Some a) (Some b) → a ≡ b
     same_type a b is = cc
 
-variable_known : (known : Knowledge) (words : List ℕ) → (known_of known (instruction op.VARIABLE words)).meaning ≡ variable_meaning (slice_index words 0) (slice_index words 2)
+pub variable_known : (known : Knowledge) (words : List ℕ) → (known_of known (instruction op.VARIABLE words)).meaning ≡ variable_meaning (slice_index words 0) (slice_index words 2)
 unfolding known_of class_of entry_of
 variable_known known words = refl
 

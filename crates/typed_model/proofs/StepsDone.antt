@@ -13,18 +13,19 @@ use Rattle.typed_model.proofs.EffectsRun.{instruction}
 use Rattle.typed_model.proofs.PlainRuns.{at_op}
 use Rattle.typed_model.proofs.InstructionsRun.{Does}
 
-done_by : (insts : List Inst) (state : State) (inst : Inst) (values : Values) → read_from state inst.op ≡ values → (d : Does insts values state.memory state.before inst)
+-- what runs with the values that it reads is done
+pub done_by : (insts : List Inst) (state : State) (inst : Inst) (values : Values) → read_from state inst.op ≡ values → (d : Does insts values state.memory state.before inst)
     → done (program_of insts) inst state ≡ Some (after_effect inst state d.runs.effect)
 unfolding done read_values
 done_by insts state inst values from d =
     ap (λ (v : Values). option_map (after_effect inst state) (option_and_then (effect_of (program_of insts) state.memory inst) (all_values v (read_ids inst.op state.before inst.words)))) from
     ∙ (ap (λ (o : Option (List Value)). option_map (after_effect inst state) (option_and_then (effect_of (program_of insts) state.memory inst) o)) d.are ∙ ap (option_map (after_effect inst state)) d.runs.is)
 
-reads_now : (state : State) (b : Bool) → b ≡ false → (if b then state.values_at_entry else state.values) ≡ state.values
+pub reads_now : (state : State) (b : Bool) → b ≡ false → (if b then state.values_at_entry else state.values) ≡ state.values
 reads_now state true isnt = cc
 reads_now state false isnt = refl
 
-reads_entry : (state : State) (b : Bool) → b ≡ true → (if b then state.values_at_entry else state.values) ≡ state.values_at_entry
+pub reads_entry : (state : State) (b : Bool) → b ≡ true → (if b then state.values_at_entry else state.values) ≡ state.values_at_entry
 reads_entry state true is = refl
 reads_entry state false is = cc
 

@@ -14,7 +14,7 @@ use Rattle.check_model.specs.Intervals.{Interval, intervals_of}
 use Rattle.check_model.specs.Typing.{typing_of}
 use Rattle.check_model.specs.OperandTypes.{operands_fit}
 use Rattle.check_model.specs.Visibility.{not_visible}
-use Rattle.check_model.specs.Validity.{has_bad_operands, use_fault_of, use_fault_at, first_use_fault, use_fault, list_fault, IsValidList}
+use Rattle.check_model.specs.Validity.{has_bad_operands, has_wrong_storage, use_fault_of, use_fault_at, first_use_fault, use_fault, list_fault, IsValidList}
 use Rattle.typed_model.specs.Modules.{IsSound}
 
 -- ---- the words of each instruction
@@ -61,11 +61,24 @@ list_seen intervals insts none place within =
     let used = (none_of_both _ _ (none_of_both _ _ none).1).0 in
     no_unseen place _ _ _ (no_first (use_fault_at intervals insts) (length insts) place used within)
 
+not_stored : (place : ℕ) (unseen : Option ℕ) (unfit misplaced : Bool) → use_fault_of place unseen unfit misplaced ≡ None → misplaced ≡ false
+not_stored place (Some id) unfit misplaced is = cc
+not_stored place None true misplaced is = cc
+not_stored place None false true is = cc
+not_stored place None false false is = refl
+
 -- ---- all of it
 
 -- what an instruction of a valid module uses is visible
 pub valid_seen : (words : Words) (v : IsValidList words) (place : ℕ) → place < length words.insts → not_visible (intervals_of v.derivation) words.insts place ≡ None
 valid_seen words v place within = list_seen (intervals_of v.derivation) words.insts v.faultless place within
+
+-- its variables stand where those of their class do, and it writes nothing that is only read
+pub valid_stored : (words : Words) → IsValidList words → (place : ℕ) → place < length words.insts → has_wrong_storage words.insts place ≡ false
+unfolding list_fault use_fault use_fault_at
+valid_stored words v place within =
+    let used = (none_of_both _ _ (none_of_both _ _ v.faultless).1).0 in
+    not_stored place _ _ _ (no_first (use_fault_at (intervals_of v.derivation) words.insts) (length words.insts) place used within)
 
 pub valid_sound : (words : Words) → IsValidList words → IsSound words
 valid_sound words v = record { sound = v.sound; shaped = shaped_at words.insts v.writable.fit; fit = list_fit (intervals_of v.derivation) words.insts v.faultless }
