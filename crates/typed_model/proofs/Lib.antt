@@ -41,3 +41,4 @@ pub mod PhiRuns
 pub mod VariableRuns
 pub mod RunningDoes
 pub mod RunningSteps
+pub mod NeverStuck

@@ -48,7 +48,7 @@ entered_does words v m r is isnt (inr came) =
 does_from : (insts : List Inst) (state : State) (inst : Inst) (values : Values) → read_from state inst.op ≡ values → Does insts values state.memory state.before inst → Does insts (read_from state inst.op) state.memory state.before inst
 does_from insts state inst values is d = subst (λ (values : Values). Does insts values state.memory state.before inst) (sym is) d
 
-here_does : (words : Words) (v : IsValidList words) (m : Machine) → IsRunning words.insts v.derivation m → Does words.insts (read_from m.state (inst_at words.insts m.place).op) m.state.memory m.state.before (inst_at words.insts m.place)
+pub here_does : (words : Words) (v : IsValidList words) (m : Machine) → IsRunning words.insts v.derivation m → Does words.insts (read_from m.state (inst_at words.insts m.place).op) m.state.memory m.state.before (inst_at words.insts m.place)
 here_does words v m r = by_phi (inst.op == op.PHI) (inst.op == op.VARIABLE) refl refl
   where
     inst : Inst

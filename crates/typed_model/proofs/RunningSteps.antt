@@ -44,7 +44,7 @@ clash false is isnt = cc
 
 -- ---- the step
 
-same_insts : (insts : List Inst) → (program_of insts).insts ≡ insts
+pub same_insts : (insts : List Inst) → (program_of insts).insts ≡ insts
 unfolding program_of
 same_insts insts = refl
 
