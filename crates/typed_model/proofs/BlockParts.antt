@@ -61,6 +61,10 @@ same_inst a b is = cc
 first_part : (may : Bool) (inst : Inst) (rest : List Inst) (found : Inst) → LaterPart may inst → slice_get (inst ∷ rest) 0 ≡ Some found → LaterPart may found
 first_part may inst rest found part at = subst (LaterPart may) (same_inst inst found at) part
 
+pub clash : (b : Bool) → b ≡ true → b ≡ false → ⊥
+clash true is isnt = cc
+clash false is isnt = cc
+
 -- an opcode of which a test holds that fails for one is another one
 pub another : (test : ℕ → Bool) (own : ℕ) → test own ≡ false → (opcode : ℕ) → test opcode ≡ true → opcode == own ≡ false
 another test own isnt opcode is = by_test test own isnt opcode (opcode == own) refl is
@@ -186,17 +190,13 @@ further may inst rest place end part more whole = record { parts = all }
 phi_part : (may : Bool) (inst : Inst) → (may ≡ false → ⊥) → inst.op == PHI ≡ true → LaterPart may inst
 phi_part may inst allowed is = record { part = a_phi is; no_label = another (λ op. op == PHI) LABEL refl inst.op is; no_phi = λ isnt. absurd (allowed isnt) }
 
-true_false : (b : Bool) → b ≡ true → b ≡ false → ⊥
-true_false true is isnt = cc
-true_false false is isnt = cc
-
 rest_parts : (may : Bool) (scope : Scope) (header : ℕ) (phis variables : Bool) → (may ≡ false → phis ≡ false) → (rest : List Inst) (place : ℕ) → HasParts may rest place (rest_of_block scope header phis variables rest place)
 rest_parts may scope header phis variables none [] place = broken may [] place _
 rest_parts may scope header phis variables none (inst ∷ rest) place =
     let P = HasParts may (inst ∷ rest) place in
     choose P (inst.op == PHI)
     (λ is. choose P phis
-    (λ allowed. further may inst rest place _ (phi_part may inst (λ isnt. true_false phis allowed (none isnt)) is) (rest_parts may scope header phis false none rest (place + 1)))
+    (λ allowed. further may inst rest place _ (phi_part may inst (λ isnt. clash phis allowed (none isnt)) is) (rest_parts may scope header phis false none rest (place + 1)))
     (λ _. broken may (inst ∷ rest) place _))
     (λ _. choose P (inst.op == VARIABLE)
     (λ is. choose P variables

@@ -20,7 +20,7 @@ use Rattle.stage_model.specs.Effect.{has_result_class}
 use Rattle.typed_model.specs.Values.{IsOfType}
 use Rattle.typed_model.specs.Types.{Suits}
 use Rattle.typed_model.specs.Judgement.{AreTyped}
-use Rattle.typed_model.proofs.TypeLayouts.{same}
+use Rattle.typed_model.proofs.BlockParts.{another, clash}
 use Rattle.typed_model.proofs.ResultIds.{typed_result_id}
 use Rattle.typed_model.proofs.TypedSteps.{typed_with}
 use Rattle.typed_model.proofs.ModuleValues.{defined_at, meaning_at}
@@ -40,11 +40,7 @@ abbrev pub gives_value : ℕ → Bool
 gives_value opcode = has_result_class (class_of opcode)
 
 pub other_opcode : (own opcode : ℕ) → gives_value own ≡ false → gives_value opcode ≡ true → opcode == own ≡ false
-other_opcode own opcode isnt is = by_test own opcode (opcode == own) refl isnt is
-  where
-    by_test : (own opcode : ℕ) (b : Bool) → opcode == own ≡ b → gives_value own ≡ false → gives_value opcode ≡ true → b ≡ false
-    by_test own opcode true equal isnt is = let e = sym (ap gives_value (same opcode own equal)) ∙ is in cc
-    by_test own opcode false equal isnt is = refl
+other_opcode own opcode isnt is = another gives_value own isnt opcode is
 
 pub label_gives : gives_value op.LABEL ≡ false
 unfolding class_of entry_of
@@ -83,10 +79,6 @@ value_known known inst is =
     by_tests known inst false false false false true e t_is c_is v_is l_is f_is e_is = cc
     by_tests known inst false false false false false true t_is c_is v_is l_is f_is e_is = cc
     by_tests known inst false false false false false false t_is c_is v_is l_is f_is e_is = refl
-
-clash : (b : Bool) → b ≡ true → b ≡ false → ⊥
-clash true is isnt = cc
-clash false is isnt = cc
 
 -- ---- results
 

@@ -17,7 +17,7 @@ use Rattle.body_model.proofs.Slices.{slice_get-drop}
 use Rattle.valid_model.specs.Definitions.{inst_at, no_instruction}
 use Rattle.stage_model.proofs.WholeBlocks.{block_at}
 use Rattle.typed_model.specs.Running.{IsInFirst}
-use Rattle.typed_model.proofs.BlockParts.{another, block_parts}
+use Rattle.typed_model.proofs.BlockParts.{another, block_parts, clash}
 use Rattle.typed_model.proofs.FunctionParts.{last_of, function_fits}
 
 -- how a sequence's first block ends
@@ -33,10 +33,6 @@ first_block insts (goes_on after here is rest) = record { end = way.GoesOn after
 first_block insts (selects head second join here is on_true on_false rest) = record { end = way.Selects head; due = here; is = is; whole = tt }
 first_block insts (picks head join here is arms rest) = record { end = way.Picks head; due = here; is = is; whole = tt }
 first_block insts (loops head inner first second third here is condition body step rest) = record { end = way.Loops head; due = here; is = is; whole = tt }
-
-clash : (b : Bool) → b ≡ true → b ≡ false → ⊥
-clash true is isnt = cc
-clash false is isnt = cc
 
 pub found_at : (insts : List Inst) (place : ℕ) (inst : Inst) → slice_get insts place ≡ Some inst → inst_at insts place ≡ inst
 found_at insts place inst at = get_or_from_slice_get insts place inst no_instruction at

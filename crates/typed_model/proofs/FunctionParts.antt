@@ -18,7 +18,7 @@ use Rattle.body_model.proofs.Forward.{forward, arm_forward, arms_forward}
 use Rattle.stage_model.proofs.WholeBlocks.{block_at}
 use Rattle.stage_model.proofs.CodeRuns.{due_of}
 use Rattle.typed_model.proofs.VisibleJumps.{block_last}
-use Rattle.typed_model.proofs.BlockParts.{BlockPart, block_parts}
+use Rattle.typed_model.proofs.BlockParts.{clash, BlockPart, block_parts}
 
 -- an OpLabel stands at the place
 pub record LabelAt (insts : List Inst) (place : ℕ) : Type 0 where
@@ -102,10 +102,6 @@ block_fits insts scope wanted from end due is whole place low high =
       next = λ ending more. let l = block_last insts scope from end b place found.0 low high at ending in absurd (omega (arith, l.0, more));
     }
   where
-    clash : (b : Bool) → b ≡ true → b ≡ false → ⊥
-    clash true is isnt = cc
-    clash false is isnt = cc
-
     on : (found : Inst) → slice_get ((block_at insts scope wanted from end due is whole).front ++ (block_at insts scope wanted from end due is whole).last ∷ (block_at insts scope wanted from end due is whole).behind) (place - from) ≡ Some found
         → is_terminator found.op ≡ false → place + 1 < after_of end
     on found here isnt = elim (cases_lt (place + 1) (after_of end)) [

@@ -25,7 +25,7 @@ use Rattle.typed_model.specs.Types.{HasTypes, AllSuit}
 use Rattle.typed_model.specs.Judgement.{AreTyped}
 use Rattle.typed_model.specs.Effects.{IsTypedEffect, Runs}
 use Rattle.typed_model.specs.Modules.{IsSound}
-use Rattle.typed_model.proofs.TypeLayouts.{same}
+use Rattle.typed_model.proofs.BlockParts.{another}
 use Rattle.typed_model.proofs.ResultIds.{in_rows, is_named, named}
 use Rattle.typed_model.proofs.EffectsRun.{instruction}
 use Rattle.typed_model.proofs.PlainRuns.{at_op, memory_runs, composite_runs, scalar_runs, undef_runs, conditional_runs, switch_runs}
@@ -105,20 +105,12 @@ phi_class : (is_plain op.PHI ≡ false) × (is_terminator op.PHI ≡ false)
 unfolding class_of entry_of
 phi_class = (refl, refl)
 
--- an opcode of which a test holds that fails for OpPhi is another one
-no_phi : (test : ℕ → Bool) → test op.PHI ≡ false → (opcode : ℕ) → test opcode ≡ true → opcode == op.PHI ≡ false
-no_phi test isnt opcode is = by_test test isnt opcode (opcode == op.PHI) refl is
-  where
-    by_test : (test : ℕ → Bool) → test op.PHI ≡ false → (opcode : ℕ) (b : Bool) → opcode == op.PHI ≡ b → test opcode ≡ true → b ≡ false
-    by_test test isnt opcode true equal is = let e = sym (ap test (same opcode op.PHI equal)) ∙ is in cc
-    by_test test isnt opcode false equal is = refl
-
 -- a plain instruction
 pub plain_does : (words : Words) → IsSound words → (intervals : List Interval) (place : ℕ) → place < length words.insts → not_visible intervals words.insts place ≡ None → (values : Values) → AreTyped words.insts intervals place values
     → (memory : Memory) (before : ℕ) → is_plain (inst_at words.insts place).op ≡ true → Does words.insts values memory before (inst_at words.insts place)
 plain_does words s intervals place within seen values typed memory before plain =
     let inst = inst_at words.insts place in
-    plain_by words.insts intervals place values memory before inst (known_at words s intervals place within seen values typed (no_phi is_plain phi_class.0 inst.op plain)) (class_of inst.op) refl
+    plain_by words.insts intervals place values memory before inst (known_at words s intervals place within seen values typed (another is_plain op.PHI phi_class.0 inst.op plain)) (class_of inst.op) refl
     (fit_here words.insts inst (class_of inst.op) (s.fit place within) refl) plain
 
 -- ---- instructions that read nothing
@@ -230,4 +222,4 @@ pub terminator_does : (words : Words) → IsSound words → (intervals : List In
 terminator_does words s intervals place within seen values typed memory before is =
     let inst = inst_at words.insts place in let of = terminator_class (class_of inst.op) is in
     by_ending words.insts intervals place values memory before inst (sym (ap (λ (of : Option Class). ends_by of inst.op) of) ∙ ends_right inst.op)
-    (known_at words s intervals place within seen values typed (no_phi is_terminator phi_class.1 inst.op is)) (fit_here words.insts inst (Some class.Terminator) (s.fit place within) of)
+    (known_at words s intervals place within seen values typed (another is_terminator op.PHI phi_class.1 inst.op is)) (fit_here words.insts inst (Some class.Terminator) (s.fit place within) of)

@@ -84,48 +84,60 @@ value_kept insts intervals place values memory read within once is isnt r typed 
 
 -- ---- OpStore
 
-never_stored : (program : Program) (words : List ℕ) (pointer value : Value) → stored program words pointer ≡ Some (Gives value) → ⊥
-never_stored program words (Pointer variable indices) value is = by_place (place_of program variable indices) variable words value is
+-- what a store does: it writes, or nothing
+abbrev IsStored : Effect → Type 0
+IsStored Passes = Unit {0}
+IsStored (Writes variable at words) = Unit {0}
+IsStored effect = ⊥
+
+stored_by : (effect own : Effect) → IsStored own → Some own ≡ Some effect → IsStored effect
+stored_by effect own is same = subst IsStored (same_effect own effect same) is
   where
-    by_place : (place : Option ℕ) (variable : ℕ) (words : List ℕ) (value : Value) → option_map (λ place. Writes variable place words) place ≡ Some (Gives value) → ⊥
-    by_place None variable words value is = cc
-    by_place (Some place) variable words value is = cc
-never_stored program words Outside value is = cc
-never_stored program words (Truth b) value is = cc
-never_stored program words (Word word) value is = cc
-never_stored program words (Composite parts) value is = cc
+    same_effect : (a b : Effect) → Some a ≡ Some b → a ≡ b
+    same_effect a b is = cc
 
-never_stores : (program : Program) (read : List Value) (value : Value) → stores program read ≡ Some (Gives value) → ⊥
-never_stores program (pointer ∷ object ∷ []) value is = by_words program pointer value (words_of object) is
+stored_is : (program : Program) (words : List ℕ) (pointer : Value) (effect : Effect) → stored program words pointer ≡ Some effect → IsStored effect
+stored_is program words (Pointer variable indices) effect is = by_place (place_of program variable indices) is
   where
-    by_words : (program : Program) (pointer value : Value) (words : Option (List ℕ)) → option_and_then (λ words. stored program words pointer) words ≡ Some (Gives value) → ⊥
-    by_words program pointer value None is = cc
-    by_words program pointer value (Some words) is = never_stored program words pointer value is
-never_stores program [] value is = cc
-never_stores program (pointer ∷ []) value is = cc
-never_stores program (pointer ∷ object ∷ more ∷ read) value is = cc
+    by_place : (place : Option ℕ) → option_map (λ place. Writes variable place words) place ≡ Some effect → IsStored effect
+    by_place None is = cc
+    by_place (Some place) is = stored_by effect (Writes variable place words) tt is
+stored_is program words Outside effect is = stored_by effect Passes tt is
+stored_is program words (Truth b) effect is = cc
+stored_is program words (Word word) effect is = cc
+stored_is program words (Composite parts) effect is = cc
 
-abbrev GivesNone : Program → Memory → List Value → Inst → Type 0
-GivesNone program memory read inst = ((value : Value) → effect_of program memory inst read ≡ Some (Gives value) → ⊥) × (result inst ≡ None)
+stores_is : (program : Program) (read : List Value) (effect : Effect) → stores program read ≡ Some effect → IsStored effect
+stores_is program (pointer ∷ object ∷ []) effect is = by_words (words_of object) is
+  where
+    by_words : (words : Option (List ℕ)) → option_and_then (λ words. stored program words pointer) words ≡ Some effect → IsStored effect
+    by_words None is = cc
+    by_words (Some words) is = stored_is program words pointer effect is
+stores_is program [] effect is = cc
+stores_is program (pointer ∷ []) effect is = cc
+stores_is program (pointer ∷ object ∷ more ∷ read) effect is = cc
 
-store_words : (program : Program) (memory : Memory) (read : List Value) (words : List ℕ) → GivesNone program memory read (instruction op.STORE words)
+abbrev StoresOnly : Program → Memory → List Value → Inst → Type 0
+StoresOnly program memory read inst = ((effect : Effect) → effect_of program memory inst read ≡ Some effect → IsStored effect) × (result inst ≡ None)
+
+store_words : (program : Program) (memory : Memory) (read : List Value) (words : List ℕ) → StoresOnly program memory read (instruction op.STORE words)
 unfolding effect_of result entry_of
-store_words program memory read words = (never_stores program read, refl)
+store_words program memory read words = (stores_is program read, refl)
 
-by_effect : (insts : List Inst) (intervals : List Interval) (place : ℕ) (values : Values) (effect : Effect) → ((value : Value) → effect ≡ Gives value → ⊥) → AreTyped insts intervals (place + 1) values → AreKept insts intervals place values effect
-by_effect insts intervals place values (Gives value) never typed = absurd (never value refl)
-by_effect insts intervals place values Passes never typed = typed
-by_effect insts intervals place values (Writes variable at words) never typed = typed
-by_effect insts intervals place values (Enters label) never typed = typed
-by_effect insts intervals place values (Goes label) never typed = typed
-by_effect insts intervals place values (Stops kind) never typed = typed
+by_effect : (insts : List Inst) (intervals : List Interval) (place : ℕ) (values : Values) (effect : Effect) → IsStored effect → AreTyped insts intervals (place + 1) values → AreKept insts intervals place values effect
+by_effect insts intervals place values Passes is typed = typed
+by_effect insts intervals place values (Writes variable at words) is typed = typed
+by_effect insts intervals place values (Gives value) is typed = absurd is
+by_effect insts intervals place values (Enters label) is typed = absurd is
+by_effect insts intervals place values (Goes label) is typed = absurd is
+by_effect insts intervals place values (Stops kind) is typed = absurd is
 
 pub store_kept : (insts : List Inst) (intervals : List Interval) (place : ℕ) (values : Values) (memory : Memory) (read : List Value) → (inst_at insts place).op == op.STORE ≡ true → (r : Runs (program_of insts) memory (inst_at insts place) read)
     → AreTyped insts intervals place values → AreKept insts intervals place values r.effect
 store_kept insts intervals place values memory read is r typed =
     let inst = inst_at insts place in
-    let n = at_op (GivesNone (program_of insts) memory read) inst op.STORE is (store_words (program_of insts) memory read inst.words) in
-    by_effect insts intervals place values r.effect (λ value e. n.0 value (r.is ∙ ap Some e))
+    let n = at_op (StoresOnly (program_of insts) memory read) inst op.STORE is (store_words (program_of insts) memory read inst.words) in
+    by_effect insts intervals place values r.effect (n.0 r.effect r.is)
     (typed_on insts intervals place values (λ id type has of. not_none id (result inst) n.1 has) typed)
 
 -- ---- plain instructions
@@ -154,39 +166,13 @@ IsInner (Gives value) = Unit {0}
 IsInner (Writes variable at words) = Unit {0}
 IsInner effect = ⊥
 
-inner_by : (effect own : Effect) → IsInner own → Some own ≡ Some effect → IsInner effect
-inner_by effect own inner is = subst IsInner (same_effect own effect is) inner
-  where
-    same_effect : (a b : Effect) → Some a ≡ Some b → a ≡ b
-    same_effect a b is = cc
-
-stored_inner : (program : Program) (words : List ℕ) (pointer : Value) (effect : Effect) → stored program words pointer ≡ Some effect → IsInner effect
-stored_inner program words (Pointer variable indices) effect is = by_place (place_of program variable indices) is
-  where
-    by_place : (place : Option ℕ) → option_map (λ place. Writes variable place words) place ≡ Some effect → IsInner effect
-    by_place None is = cc
-    by_place (Some place) is = inner_by effect (Writes variable place words) tt is
-stored_inner program words Outside effect is = inner_by effect Passes tt is
-stored_inner program words (Truth b) effect is = cc
-stored_inner program words (Word word) effect is = cc
-stored_inner program words (Composite parts) effect is = cc
-
-stores_inner : (program : Program) (read : List Value) (effect : Effect) → stores program read ≡ Some effect → IsInner effect
-stores_inner program (pointer ∷ object ∷ []) effect is = by_words (words_of object) is
-  where
-    by_words : (words : Option (List ℕ)) → option_and_then (λ words. stored program words pointer) words ≡ Some effect → IsInner effect
-    by_words None is = cc
-    by_words (Some words) is = stored_inner program words pointer effect is
-stores_inner program [] effect is = cc
-stores_inner program (pointer ∷ []) effect is = cc
-stores_inner program (pointer ∷ object ∷ more ∷ read) effect is = cc
-
-abbrev StoresInner : Program → Memory → List Value → Inst → Type 0
-StoresInner program memory read inst = (effect : Effect) → effect_of program memory inst read ≡ Some effect → IsInner effect
-
-store_inner : (program : Program) (memory : Memory) (read : List Value) (words : List ℕ) → StoresInner program memory read (instruction op.STORE words)
-unfolding effect_of
-store_inner program memory read words effect is = stores_inner program read effect is
+stored_inner : (effect : Effect) → IsStored effect → IsInner effect
+stored_inner Passes is = tt
+stored_inner (Writes variable at words) is = tt
+stored_inner (Gives value) is = tt
+stored_inner (Enters label) is = is
+stored_inner (Goes label) is = is
+stored_inner (Stops kind) is = is
 
 -- an instruction that gives a value, OpPhi among them
 pub value_inner : (program : Program) (memory : Memory) (inst : Inst) (read : List Value) (effect : Effect) → has_result_class (class_of inst.op) ≡ true → inst.op == op.STORE ≡ false → effect_of program memory inst read ≡ Some effect → IsInner effect
@@ -196,7 +182,7 @@ pub plain_inner : (program : Program) (memory : Memory) (inst : Inst) (read : Li
 plain_inner program memory inst read effect plain is = by_store (inst.op == op.STORE) refl
   where
     by_store : (b : Bool) → inst.op == op.STORE ≡ b → IsInner effect
-    by_store true store = at_op (StoresInner program memory read) inst op.STORE store (store_inner program memory read inst.words) effect is
+    by_store true store = stored_inner effect ((at_op (StoresOnly program memory read) inst op.STORE store (store_words program memory read inst.words)).0 effect is)
     by_store false isnt = value_inner program memory inst read effect (plain_gives (class_of inst.op) plain) isnt is
 
 -- ---- labels, merge instructions and variables

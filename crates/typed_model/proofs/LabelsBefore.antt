@@ -23,15 +23,11 @@ use Rattle.typed_model.proofs.TypeLayouts.{same}
 use Rattle.typed_model.proofs.ModuleValues.{defined_at}
 use Rattle.typed_model.proofs.ValidTypes.{keeps_rules}
 use Rattle.typed_model.proofs.ValidFunctions.{front_of}
-use Rattle.typed_model.proofs.BlockParts.{another}
+use Rattle.typed_model.proofs.BlockParts.{another, clash}
 use Rattle.typed_model.proofs.FunctionParts.{LabelAt, Fits, function_fits, function_starts}
 use Rattle.typed_model.proofs.FunctionRuns.{function_within}
 use Rattle.typed_model.proofs.FirstBlocks.{found_at}
 use Rattle.typed_model.proofs.BlockLists.{next_label, label_behind_next, Has, block_to, blocks_have, EndsAt, block_ends, Found, block_found}
-
-clash : (b : Bool) → b ≡ true → b ≡ false → ⊥
-clash true is isnt = cc
-clash false is isnt = cc
 
 choose_label : (b : Bool) (own label : ℕ) → b ≡ true → (if b then own else label) ≡ own
 choose_label true own label is = refl

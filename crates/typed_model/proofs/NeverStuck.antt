@@ -33,7 +33,7 @@ use Rattle.stage_model.proofs.LabelPlaces.{label_places}
 use Rattle.stage_model.proofs.StageRuns.{stopped, nowhere, stage_runs}
 use Rattle.typed_model.specs.Judgement.{AreTyped}
 use Rattle.typed_model.specs.Running.{IsRunning, Acts, TakesStep}
-use Rattle.typed_model.proofs.BlockParts.{BlockPart, a_label, a_phi, a_variable, a_selection_merge, a_loop_merge, a_plain_one, a_terminator, another}
+use Rattle.typed_model.proofs.BlockParts.{BlockPart, a_label, a_phi, a_variable, a_selection_merge, a_loop_merge, a_plain_one, a_terminator, another, clash}
 use Rattle.typed_model.proofs.EffectsRun.{instruction}
 use Rattle.typed_model.proofs.FirstBlocks.{found_at}
 use Rattle.typed_model.proofs.FunctionParts.{function_starts}
@@ -48,10 +48,6 @@ use Rattle.typed_model.proofs.StepsDone.{done_by, variable_done}
 use Rattle.typed_model.proofs.TypeLayouts.{same}
 use Rattle.typed_model.proofs.ValidFunctions.{front_of, valid_start}
 use Rattle.typed_model.proofs.ValidTypes.{keeps_rules, valid_types}
-
-clash : (b : Bool) → b ≡ true → b ≡ false → ⊥
-clash true is isnt = cc
-clash false is isnt = cc
 
 -- ---- where it starts
 

@@ -13,7 +13,7 @@ use Rattle.check_model.specs.Validity.{IsValidList}
 use Rattle.stage_model.specs.Start.{Values}
 use Rattle.stage_model.specs.Machine.{State, Machine, read_from}
 use Rattle.typed_model.specs.Running.{Came, IsEntered, IsRunning, Acts}
-use Rattle.typed_model.proofs.BlockParts.{BlockPart, a_label, a_phi, a_variable, a_selection_merge, a_loop_merge, a_plain_one, a_terminator, another}
+use Rattle.typed_model.proofs.BlockParts.{BlockPart, a_label, a_phi, a_variable, a_selection_merge, a_loop_merge, a_plain_one, a_terminator, another, clash}
 use Rattle.typed_model.proofs.FunctionParts.{function_starts}
 use Rattle.typed_model.proofs.FunctionRuns.{part_at, function_does}
 use Rattle.typed_model.proofs.InstructionsRun.{Does}
@@ -22,10 +22,6 @@ use Rattle.typed_model.proofs.FirstBlocks.{found_at, no_phi_first}
 use Rattle.typed_model.proofs.LabelsBefore.{stands_there}
 use Rattle.typed_model.proofs.PhiRuns.{phi_does}
 use Rattle.typed_model.proofs.VariableRuns.{variable_does}
-
-clash : (b : Bool) → b ≡ true → b ≡ false → ⊥
-clash true is isnt = cc
-clash false is isnt = cc
 
 -- what is no label stands behind the function's first one
 pub behind_start : (insts : List Inst) (d : Derives insts) (place : ℕ) → d.before + 1 ≤ place → (inst_at insts place).op == op.LABEL ≡ false → d.before + 1 < place

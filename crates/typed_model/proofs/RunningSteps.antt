@@ -30,17 +30,13 @@ use Rattle.stage_model.proofs.Flows.{Suits}
 use Rattle.typed_model.specs.Judgement.{AreTyped}
 use Rattle.typed_model.specs.Jumps.{Lands}
 use Rattle.typed_model.specs.Running.{IsInFirst, Came, IsEntered, IsRunning, TakesStep}
-use Rattle.typed_model.proofs.BlockParts.{another}
+use Rattle.typed_model.proofs.BlockParts.{another, clash}
 use Rattle.typed_model.proofs.FirstBlocks.{found_at}
 use Rattle.typed_model.proofs.FunctionParts.{Fits, function_fits}
 use Rattle.typed_model.proofs.KeptSteps.{AreKept, IsInner}
 use Rattle.typed_model.proofs.LabelsBefore.{stands_there, own_label_behind, same_label_behind}
 use Rattle.typed_model.proofs.TypedSteps.{typed_along}
 use Rattle.typed_model.proofs.ValidFunctions.{lands}
-
-clash : (b : Bool) → b ≡ true → b ≡ false → ⊥
-clash true is isnt = cc
-clash false is isnt = cc
 
 -- ---- the step
 
