@@ -1,5 +1,5 @@
 -- The function's first block has no phi.
-use Rattle.std.proofs.Common.{◌≡◌, ℕ, suc, ◌+◌, ◌-◌, ◌<◌, ◌≤◌, ◌==◌, inl, inr, Bool, true, false, List, length, drop, refl, ap, sym, ◌∙◌, arith, Option, None, Some}
+use Rattle.std.proofs.Common.{◌≡◌, ℕ, suc, ◌+◌, ◌-◌, ◌<◌, ◌≤◌, ◌==◌, inl, inr, false, List, length, refl, ap, sym, ◌∙◌, arith, Option, None, Some}
 use Rattle.std.specs.Prelude.{slice_get}
 use Rattle.std.proofs.lemmas.Bool.{cases_lt}
 use Rattle.std.proofs.lemmas.Option.{get_or_from_slice_get}
@@ -17,7 +17,7 @@ use Rattle.body_model.proofs.Slices.{slice_get-drop}
 use Rattle.valid_model.specs.Definitions.{inst_at, no_instruction}
 use Rattle.stage_model.proofs.WholeBlocks.{block_at}
 use Rattle.typed_model.specs.Running.{IsInFirst}
-use Rattle.typed_model.proofs.BlockParts.{another, block_parts, clash}
+use Rattle.typed_model.proofs.BlockParts.{block_parts, clash}
 use Rattle.typed_model.proofs.FunctionParts.{last_of, function_fits}
 
 -- how a sequence's first block ends

@@ -1,5 +1,5 @@
 -- The label of the block that a place of a valid module's function is in: a block is told by its label.
-use Rattle.std.proofs.Common.{◌≡◌, ℕ, zero, suc, ◌+◌, ◌-◌, ◌<◌, ◌≤◌, ◌==◌, ◌||◌, inl, inr, Bool, true, false, if◌then◌else◌, List, length, take, refl, ap, sym, ◌∙◌, subst, arith, Option, None, Some}
+use Rattle.std.proofs.Common.{◌≡◌, ℕ, zero, suc, ◌+◌, ◌-◌, ◌<◌, ◌≤◌, ◌==◌, ◌||◌, inl, inr, Bool, true, false, if◌then◌else◌, List, length, take, refl, ap, sym, ◌∙◌, subst, arith, Option, Some}
 use Rattle.std.specs.Prelude.{slice_get}
 use Rattle.std.specs.Option.{option_map}
 use Rattle.std.proofs.lemmas.Bool.{cases_lt}
@@ -11,23 +11,21 @@ use Rattle.spirv_model.specs.declared.class.Class.{Class}
 use Rattle.spirv_model.specs.declared.class.Class.TheVariants as class
 use Rattle.spirv_model.specs.Operands.{word_at, entry_of, class_of, result}
 use Rattle.body_model.specs.Classes.{is_module_level_class, is_module_level, is_terminator_class, is_terminator}
-use Rattle.body_model.specs.Targets.{targets}
-use Rattle.body_model.specs.Grammar.{IsOp, Derives, Sequence}
+use Rattle.body_model.specs.Grammar.{IsOp, Derives}
 use Rattle.body_model.proofs.ClassFacts.{straight_label}
-use Rattle.valid_model.specs.Definitions.{definition, inst_at, no_instruction}
+use Rattle.valid_model.specs.Definitions.{definition, inst_at}
 use Rattle.check_model.specs.Branches.{Block, blocks_of, block_end_of, label_behind}
 use Rattle.check_model.specs.Validity.{IsValidList}
 use Rattle.typed_model.proofs.EffectsRun.{instruction}
 use Rattle.typed_model.proofs.PlainRuns.{at_op}
-use Rattle.typed_model.proofs.TypeLayouts.{same}
 use Rattle.typed_model.proofs.ModuleValues.{defined_at}
 use Rattle.typed_model.proofs.ValidTypes.{keeps_rules}
 use Rattle.typed_model.proofs.ValidFunctions.{front_of}
 use Rattle.typed_model.proofs.BlockParts.{another, clash}
-use Rattle.typed_model.proofs.FunctionParts.{LabelAt, Fits, function_fits, function_starts}
+use Rattle.typed_model.proofs.FunctionParts.{function_fits, function_starts}
 use Rattle.typed_model.proofs.FunctionRuns.{function_within}
 use Rattle.typed_model.proofs.FirstBlocks.{found_at}
-use Rattle.typed_model.proofs.BlockLists.{next_label, label_behind_next, Has, block_to, blocks_have, EndsAt, block_ends, Found, block_found}
+use Rattle.typed_model.proofs.BlockLists.{label_behind_next, blocks_have, block_ends, block_found}
 
 choose_label : (b : Bool) (own label : ℕ) → b ≡ true → (if b then own else label) ≡ own
 choose_label true own label is = refl

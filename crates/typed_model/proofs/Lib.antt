@@ -41,4 +41,6 @@ pub mod PhiRuns
 pub mod VariableRuns
 pub mod RunningDoes
 pub mod RunningSteps
+pub mod RunningStart
+pub mod RunningGoes
 pub mod NeverStuck

@@ -1,6 +1,6 @@
 -- A phi of a valid module runs where its block was entered by a branch: it reads the value that it pairs with the block before.
 use Rattle.std.proofs.Common.{◌≡◌, ℕ, ◌+◌, ◌<◌, ◌≤◌, ◌==◌, ◌&&◌, ◌||◌, Bool, true, false, not, if◌then◌else◌, List, [], ◌∷◌, drop, take, refl, ap, sym, ◌∙◌, subst, arith, Option, None, Some}
-use Rattle.std.specs.Prelude.{map, filter, slice_get}
+use Rattle.std.specs.Prelude.{map, slice_get}
 use Rattle.std.specs.List.{find, list_all}
 use Rattle.std.specs.Option.{option_map, option_and_then, unwrap_or}
 use Rattle.std.proofs.lemmas.Bool.Decides.{nat_tests}
@@ -15,24 +15,21 @@ use Rattle.body_model.specs.Targets.{targets}
 use Rattle.valid_model.specs.Definitions.{definition, inst_at}
 use Rattle.valid_model.specs.Meanings.{meaning}
 use Rattle.valid_model.specs.ModuleFacts.{is_word}
-use Rattle.check_model.specs.Branches.{Block, blocks_of, leads_to, predecessors, block_end_of, label_behind}
+use Rattle.check_model.specs.Branches.{blocks_of, predecessors, block_end_of, label_behind}
 use Rattle.check_model.specs.Intervals.{Interval, intervals_of}
 use Rattle.check_model.specs.Typing.{type_id, typing_of, constant_word}
 use Rattle.check_model.specs.OperandTypes.{incoming_fits, is_pointer, operands_fit}
-use Rattle.check_model.specs.Visibility.{Use, Incoming, incoming_in, incoming, incoming_blocks, are_those, names_predecessors, use_at, incoming_use, phi_uses, is_defined_for, is_visible_use, uses_at, not_visible}
+use Rattle.check_model.specs.Visibility.{Use, Incoming, incoming_in, incoming, incoming_blocks, names_predecessors, use_at, incoming_use, phi_uses, is_defined_for, is_visible_use, uses_at, not_visible}
 use Rattle.check_model.specs.Validity.{IsValidList}
-use Rattle.stage_model.specs.Value.{Value}
 use Rattle.stage_model.specs.Program.{program_of}
 use Rattle.stage_model.specs.Start.{Values, Memory, all_values}
 use Rattle.stage_model.specs.Effect.{Gives, paired_with, read_ids, result_of, effect_of}
 use Rattle.typed_model.specs.Types.{AllSuit}
-use Rattle.typed_model.specs.Effects.{Runs}
 use Rattle.typed_model.specs.Judgement.{HasValue, AreTyped}
 use Rattle.typed_model.specs.Running.{Came}
 use Rattle.typed_model.proofs.EffectsRun.{instruction}
 use Rattle.typed_model.proofs.PlainRuns.{at_op}
 use Rattle.typed_model.proofs.InstructionsRun.{Does}
-use Rattle.typed_model.proofs.ReadValues.{IsSeen}
 use Rattle.typed_model.proofs.ValidModules.{valid_sound, valid_seen}
 use Rattle.typed_model.proofs.FunctionRuns.{function_within}
 use Rattle.typed_model.proofs.BlockLists.{block_to, blocks_have, among_predecessors}

@@ -1,21 +1,18 @@
 -- A running machine finds an instruction at its place, and the values that it reads; so it is done.
-use Rattle.std.proofs.Common.{◌≡◌, ℕ, ◌+◌, ◌<◌, ◌≤◌, ◌==◌, inl, inr, Bool, true, false, List, take, refl, ap, sym, ◌∙◌, subst, arith}
+use Rattle.std.proofs.Common.{◌≡◌, ℕ, ◌+◌, ◌<◌, ◌≤◌, ◌==◌, inl, inr, Bool, true, false, List, refl, ap, sym, ◌∙◌, subst, arith}
 use Rattle.std.proofs.lemmas.Bool.{cases_lt}
 use Rattle.spirv_model.specs.declared.module.Inst.{Inst}
 use Rattle.spirv_model.specs.declared.module.Words.{Words}
 use Rattle.spirv_model.specs.declared.op.TheConstants as op
-use Rattle.body_model.specs.Classes.{is_plain, is_terminator}
 use Rattle.body_model.specs.Grammar.{Derives}
-use Rattle.body_model.proofs.ClassFacts.{straight_phi, straight_variable}
 use Rattle.valid_model.specs.Definitions.{inst_at}
-use Rattle.check_model.specs.Branches.{label_behind}
 use Rattle.check_model.specs.Validity.{IsValidList}
 use Rattle.stage_model.specs.Start.{Values}
 use Rattle.stage_model.specs.Machine.{State, Machine, read_from}
 use Rattle.typed_model.specs.Running.{Came, IsEntered, IsRunning, Acts}
-use Rattle.typed_model.proofs.BlockParts.{BlockPart, a_label, a_phi, a_variable, a_selection_merge, a_loop_merge, a_plain_one, a_terminator, another, clash}
+use Rattle.typed_model.proofs.BlockParts.{another, clash}
 use Rattle.typed_model.proofs.FunctionParts.{function_starts}
-use Rattle.typed_model.proofs.FunctionRuns.{part_at, function_does}
+use Rattle.typed_model.proofs.FunctionRuns.{function_does}
 use Rattle.typed_model.proofs.InstructionsRun.{Does}
 use Rattle.typed_model.proofs.StepsDone.{reads_now, reads_entry, done_by}
 use Rattle.typed_model.proofs.FirstBlocks.{found_at, no_phi_first}

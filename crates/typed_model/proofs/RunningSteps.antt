@@ -1,5 +1,5 @@
 -- A machine that is running is so behind its step: at the next instruction of its block, or at the label where a branch leads.
-use Rattle.std.proofs.Common.{◌≡◌, ℕ, ◌+◌, ◌<◌, ◌≤◌, ◌==◌, ◌⊎◌, inl, inr, nat_le, Bool, true, false, if◌then◌else◌, List, take, drop, slice_index, refl, ap, sym, ◌∙◌, subst, arith, Option, None, Some}
+use Rattle.std.proofs.Common.{◌≡◌, ℕ, ◌+◌, ◌<◌, ◌≤◌, ◌==◌, inl, inr, nat_le, Bool, true, false, if◌then◌else◌, List, slice_index, refl, ap, sym, ◌∙◌, subst, arith, Option, Some}
 use Rattle.std.specs.Prelude.{slice_get}
 use Rattle.std.specs.Option.{option_map, option_and_then}
 use Rattle.std.proofs.lemmas.Bool.{cases_lt}
@@ -15,24 +15,23 @@ use Rattle.body_model.specs.Grammar.{Derives}
 use Rattle.body_model.proofs.ClassFacts.{straight_label}
 use Rattle.body_model.proofs.Dues.{stands_at, among_one}
 use Rattle.valid_model.specs.Definitions.{inst_at}
-use Rattle.check_model.specs.Branches.{label_behind}
 use Rattle.check_model.specs.Intervals.{intervals_of}
 use Rattle.stage_model.specs.declared.outcome.Kind.{Kind}
 use Rattle.stage_model.specs.declared.outcome.Kind.TheVariants.{Lost}
-use Rattle.stage_model.specs.Program.{Program, program_of}
+use Rattle.stage_model.specs.Program.{program_of}
 use Rattle.stage_model.specs.Start.{Values, Memory}
 use Rattle.stage_model.specs.Effect.{Effect, Passes, Gives, Writes, Enters, Goes, Stops}
-use Rattle.stage_model.specs.Machine.{State, Flow, Next, To, Stopped, counted, after_effect, done, Machine, Step, GoesOn, Ends, at, back_to, jump, led, step}
+use Rattle.stage_model.specs.Machine.{State, Flow, Next, To, Stopped, counted, after_effect, done, Machine, Step, GoesOn, Ends, at, jump, led, step}
 use Rattle.stage_model.specs.Leads.{machine}
 use Rattle.stage_model.proofs.BlockRuns.{front_at}
 use Rattle.stage_model.proofs.LabelPlaces.{label_places}
 use Rattle.stage_model.proofs.Flows.{Suits}
 use Rattle.typed_model.specs.Judgement.{AreTyped}
 use Rattle.typed_model.specs.Jumps.{Lands}
-use Rattle.typed_model.specs.Running.{IsInFirst, Came, IsEntered, IsRunning, TakesStep}
+use Rattle.typed_model.specs.Running.{IsInFirst, IsEntered, IsRunning, TakesStep}
 use Rattle.typed_model.proofs.BlockParts.{another, clash}
 use Rattle.typed_model.proofs.FirstBlocks.{found_at}
-use Rattle.typed_model.proofs.FunctionParts.{Fits, function_fits}
+use Rattle.typed_model.proofs.FunctionParts.{function_fits}
 use Rattle.typed_model.proofs.KeptSteps.{AreKept, IsInner}
 use Rattle.typed_model.proofs.LabelsBefore.{stands_there, own_label_behind, same_label_behind}
 use Rattle.typed_model.proofs.TypedSteps.{typed_along}

@@ -1,5 +1,5 @@
 -- A variable of a valid module's function runs: it gives a pointer of its type.
-use Rattle.std.proofs.Common.{◌≡◌, ℕ, zero, suc, ◌+◌, ◌<◌, ◌≤◌, ◌==◌, ◌||◌, not, Bool, true, false, if◌then◌else◌, List, [], ◌∷◌, length, take, slice_index, refl, ap, sym, ◌∙◌, arith, Option, None, Some}
+use Rattle.std.proofs.Common.{◌≡◌, ℕ, zero, suc, ◌+◌, ◌<◌, ◌≤◌, ◌==◌, ◌||◌, not, Bool, true, false, if◌then◌else◌, List, [], ◌∷◌, take, slice_index, refl, ap, ◌∙◌, arith, Option, None, Some}
 use Rattle.std.specs.Prelude.{slice_get}
 use Rattle.std.specs.List.{list_any}
 use Rattle.std.proofs.lemmas.Bool.Decides.{nat_tests}
@@ -15,7 +15,7 @@ use Rattle.valid_model.specs.Knowledge.{is_storage_class}
 use Rattle.valid_model.specs.Meanings.{variable_meaning, known_of, known_before, meaning}
 use Rattle.check_model.specs.EntryPoints.{is_op_function}
 use Rattle.check_model.specs.Storage.{is_in_function, is_wrong_storage}
-use Rattle.check_model.specs.Typing.{Typing, typing_of, constant_word}
+use Rattle.check_model.specs.Typing.{Typing, typing_of}
 use Rattle.check_model.specs.Validity.{has_wrong_storage, IsValidList}
 use Rattle.stage_model.specs.Program.{program_of}
 use Rattle.stage_model.specs.Start.{Values, Memory}

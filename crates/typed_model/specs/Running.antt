@@ -64,12 +64,3 @@ pub record TakesStep (insts : List Inst) (d : Derives insts) (m : Machine) : Typ
   pub to : Step
   pub is : step (program_of insts) m ≡ Some to
   pub on : (next : Machine) → to ≡ GoesOn next → IsRunning insts d next
-
--- The laws of it, in proofs/ (NeverStuck, RunningDoes):
---   first_label_is : (insts : List Inst) (d : Derives insts) → first_label insts ≡ Some (d.before + 1)
---   running_start : (words : Words) (v : IsValidList words) (given : Given) (first : ℕ) → first_label words.insts ≡ Some first
---       → IsRunning words.insts v.derivation (start_at (program_of words.insts) given first)
---   running_does : (words : Words) (v : IsValidList words) (m : Machine) → IsRunning words.insts v.derivation m → Acts words.insts m
---   running_goes : (words : Words) (v : IsValidList words) (m : Machine) → IsRunning words.insts v.derivation m
---       → TakesStep words.insts v.derivation m
---   never_stuck : (words : Words) → IsValidList words → (given : Given) → (o : Outcome) × (stage words.insts given ≡ Some o)
