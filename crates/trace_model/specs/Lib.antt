@@ -1,4 +1,14 @@
+pub mod Fields
 pub mod Form
+pub mod LibraryLines
+pub mod LineForms
+pub mod Lines
+pub mod LinesBefore
 pub mod Meaning
+pub mod ObjectCauses
 pub mod Output
+pub mod PartCauses
+pub mod Reading
+pub mod RecorderLines
+pub mod SetupLines
 pub mod Text
