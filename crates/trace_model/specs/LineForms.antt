@@ -14,26 +14,26 @@ pub record LineForm : Type 0 where
   pub word : List ℕ
   pub form : Version → List (List ℕ) → Option Line
 
-abbrev form : List ℕ → (Version → List (List ℕ) → Option Line) → LineForm
-form word form = record { word = word; form = form }
+abbrev pub begun_by : List ℕ → (Version → List (List ℕ) → Option Line) → LineForm
+begun_by word form = record { word = word; form = form }
 
 abbrev pub line_forms : List LineForm
 line_forms =
-    form (codes "data") (λ version. data_form)
-    ∷ form (codes "code") (λ version. code_form)
-    ∷ form (codes "layout") (λ version. layout_form)
-    ∷ form (codes "vertex") (λ version. vertex_form)
-    ∷ form (codes "prerast") prerast_form
-    ∷ form (codes "fragment") fragment_form
-    ∷ form (codes "output") output_form
-    ∷ form (codes "pipe") (λ version. pipe_form)
-    ∷ form (codes "target") (λ version. target_form)
-    ∷ form (codes "push") (λ version. push_form)
-    ∷ form (codes "vbuf") (λ version. vbuf_form)
-    ∷ form (codes "ubuf") (λ version. ubuf_form)
-    ∷ form (codes "scissor") (λ version. scissor_form)
-    ∷ form (codes "bind") bind_form
-    ∷ form (codes "draw") (λ version. draw_form)
+    begun_by (codes "data") (λ version. data_form)
+    ∷ begun_by (codes "code") (λ version. code_form)
+    ∷ begun_by (codes "layout") (λ version. layout_form)
+    ∷ begun_by (codes "vertex") (λ version. vertex_form)
+    ∷ begun_by (codes "prerast") prerast_form
+    ∷ begun_by (codes "fragment") fragment_form
+    ∷ begun_by (codes "output") output_form
+    ∷ begun_by (codes "pipe") (λ version. pipe_form)
+    ∷ begun_by (codes "target") (λ version. target_form)
+    ∷ begun_by (codes "push") (λ version. push_form)
+    ∷ begun_by (codes "vbuf") (λ version. vbuf_form)
+    ∷ begun_by (codes "ubuf") (λ version. ubuf_form)
+    ∷ begun_by (codes "scissor") (λ version. scissor_form)
+    ∷ begun_by (codes "bind") bind_form
+    ∷ begun_by (codes "draw") (λ version. draw_form)
     ∷ []
 
 abbrev pub line_of_fields : Version → List (List ℕ) → Option Line

@@ -1,7 +1,7 @@
 -- What the lines before a line have made: the trace so far, and the layouts, which a trace keeps in its libraries alone. Each
 -- line adds something to it.
-use Rattle.std.specs.Prelude.{ℕ, ◌==◌, List, [], ◌∷◌, ◌++◌, map, replicate, Option, None, Some, Result, Ok, Err}
-use Rattle.std.specs.List.{find, range_with_len, slice_get}
+use Rattle.std.specs.Prelude.{ℕ, false, ◌==◌, slice_index_or, List, [], ◌∷◌, ◌++◌, map, replicate, Option, None, Some, Result, Ok, Err}
+use Rattle.std.specs.List.{find, range_with_len}
 use Rattle.std.specs.Option.{option_map}
 use Rattle.limits.specs.declared.TheConstants.{LOCATIONS, DESCRIPTOR_SETS, ENTRIES}
 use Rattle.spirv_model.specs.declared.module.Words.{Words}
