@@ -1,3 +1,4 @@
+pub mod FaultText
 pub mod Fields
 pub mod Form
 pub mod LibraryLines
@@ -8,7 +9,11 @@ pub mod Meaning
 pub mod ObjectCauses
 pub mod Output
 pub mod PartCauses
+pub mod Pipes
+pub mod PlayText
+pub mod Playing
 pub mod Reading
 pub mod RecorderLines
 pub mod SetupLines
+pub mod SpecIds
 pub mod Text
