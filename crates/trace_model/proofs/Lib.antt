@@ -1,3 +1,5 @@
 pub mod Meanings
 pub mod Samples
 pub mod Targets
+pub mod WorkedPlays
+pub mod WorkedText
