@@ -1,5 +1,6 @@
 pub mod Meanings
 pub mod Samples
 pub mod Targets
+pub mod WorkedLines
 pub mod WorkedPlays
 pub mod WorkedText
