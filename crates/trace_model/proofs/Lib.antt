@@ -4,3 +4,4 @@ pub mod Targets
 pub mod WorkedLines
 pub mod WorkedPlays
 pub mod WorkedText
+pub mod WorkedTexts
