@@ -1,6 +1,7 @@
 pub mod Meanings
 pub mod Samples
 pub mod Targets
+pub mod WorkedFaults
 pub mod WorkedLines
 pub mod WorkedPlays
 pub mod WorkedText
