@@ -1,6 +1,7 @@
 pub mod Meanings
 pub mod Samples
 pub mod Targets
+pub mod TraceLimits
 pub mod WorkedFaults
 pub mod WorkedLines
 pub mod WorkedPlays
