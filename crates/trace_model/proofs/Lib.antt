@@ -1,4 +1,5 @@
 pub mod Meanings
+pub mod ReadingLaws
 pub mod Samples
 pub mod Targets
 pub mod TraceLimits
