@@ -1,6 +1,7 @@
 pub mod Meanings
 pub mod ReadingLaws
 pub mod Samples
+pub mod SpecIdLaws
 pub mod Targets
 pub mod TraceLimits
 pub mod WorkedFaults

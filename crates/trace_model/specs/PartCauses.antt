@@ -2,11 +2,11 @@
 use Rattle.std.specs.Prelude.{ℕ, ◌+◌, ◌*◌, Bool, true, false, not, ◌&&◌, ◌||◌, ◌==◌, nat_lt, if◌then◌else◌, List, [], ◌∷◌, map, Option, None, Some, is_none}
 use Rattle.std.specs.List.{list_any, slice_get}
 use Rattle.std.specs.Option.{option_map_or}
-use Rattle.spirv_model.specs.declared.decoration.TheConstants.{BINDING, DESCRIPTOR_SET}
 use Rattle.spirv_model.specs.declared.module.Inst.{Inst}
 use Rattle.spirv_model.specs.declared.module.Words.{Words}
 use Rattle.spirv_model.specs.declared.storage_class.TheConstants as storage_class
 use Rattle.spirv_model.specs.Operands.{word_at}
+use Rattle.body_model.specs.Switches.{repeat}
 use Rattle.valid_model.specs.DecorationWords.{slot_of}
 use Rattle.valid_model.specs.EarlierFacts.{is_variable_of}
 use Rattle.state_model.specs.declared.parts.VertexBinding.{VertexBinding}
@@ -21,13 +21,6 @@ use Rattle.draw_model.specs.Pixel.{has_bit}
 use Rattle.trace_model.specs.Lines.{LocatedAttribute, VertexLine, PrerastLine, FragmentLine, Line, vertex_line, prerast_line, fragment_line}
 use Rattle.trace_model.specs.LinesBefore.{Before, layout_at}
 
--- ---- of a list of numbers
-
--- some number stands twice
-abbrev pub repeats_number : List ℕ → Bool
-repeats_number [] = false
-repeats_number (n ∷ ns) = list_any (λ m. m == n) ns || repeats_number ns
-
 -- ---- vertex input
 
 abbrev pub lacks_binding : List (Option VertexBinding) → LocatedAttribute → Bool
@@ -35,7 +28,7 @@ lacks_binding bindings a = is_none (present_at bindings a.attribute.binding)
 
 -- two attributes have one location, or an attribute's binding isn't there
 abbrev pub is_bad_vertex : VertexLine → Bool
-is_bad_vertex line = repeats_number (map (λ a. a.location) line.attributes) || list_any (lacks_binding line.bindings) line.attributes
+is_bad_vertex line = repeat (map (λ a. a.location) line.attributes) || list_any (lacks_binding line.bindings) line.attributes
 
 -- ---- what a module uses of its layout
 
@@ -67,7 +60,7 @@ exceeds_layout insts layout = list_any (lacks_uniform insts layout) insts || lis
 -- the module is of another stage, an entry's id stands twice, or the module uses what the layout lacks
 abbrev pub is_bad_shader : Stage → Words → Layout → List Entry → Bool
 is_bad_shader stage read layout entries =
-    stages_differ stage (stage_of read.insts) || repeats_number (map (λ e. e.id) entries) || exceeds_layout read.insts layout
+    stages_differ stage (stage_of read.insts) || repeat (map (λ e. e.id) entries) || exceeds_layout read.insts layout
 
 -- the same by the module's number and the layout's; that there is such a module is asked before
 abbrev pub is_bad_numbered : Stage → Before → (module_number layout_number : ℕ) → List Entry → Bool
