@@ -1,6 +1,6 @@
 -- The key of libraries that link tells whether they are all retained.
-use Rattle.std.proofs.Common.{◌≡◌, ℕ, ◌+◌, ◌*◌, ◌/◌, ◌%◌, ◌^◌, ◌≤◌, ◌==◌, Bool, true, false, cond, not, ◌&&◌, ◌||◌, List, [], ◌∷◌, Option, None, Some, length, refl, ap, subst, sym, ◌∙◌, arith}
-use Rattle.std.specs.Prelude.{nat_lt, slice_index}
+use Rattle.std.proofs.Common.{◌≡◌, ℕ, ◌+◌, ◌*◌, ◌/◌, ◌%◌, ◌^◌, ◌≤◌, ◌==◌, Bool, true, false, not, ◌&&◌, ◌||◌, List, [], ◌∷◌, Option, None, Some, length, refl, ap, subst, sym, ◌∙◌, arith}
+use Rattle.std.specs.Prelude.{nat_lt}
 use Rattle.std.specs.Option.{option_map, option_map_or}
 use Rattle.std.proofs.lemmas.Bool.Decides.{nat_tests}
 use Rattle.state_model.specs.declared.parts.Topology.{Topology}
@@ -34,7 +34,7 @@ word_of triangles discard cull ccw vertex prerast fragment output =
 
 flags : (t d c w v p f o : ℕ) → t ≤ 1 → d ≤ 1 → c ≤ 3 → w ≤ 1 → v ≤ 1 → p ≤ 1 → f ≤ 1 → o ≤ 1
     → (word_of t d c w v p f o / 2 ^ 1 % 2 ≡ d) × (word_of t d c w v p f o / 2 ^ 8 % 2 ≡ v) × (word_of t d c w v p f o / 2 ^ 9 % 2 ≡ p)
-        × (word_of t d c w v p f o / 2 ^ 10 % 2 ≡ f) × (word_of t d c w v p f o / 2 ^ 11 % 2 ≡ o)
+    × (word_of t d c w v p f o / 2 ^ 10 % 2 ≡ f) × (word_of t d c w v p f o / 2 ^ 11 % 2 ≡ o)
 flags t d c w v p f o ht hd hc hw hv hp hf ho = (omega arith, omega arith, omega arith, omega arith, omega arith)
 
 by_flags : (k : List ℕ) (d v p f o : Bool) → flag_of 1 k ≡ d → flag_of 8 k ≡ v → flag_of 9 k ≡ p → flag_of 10 k ≡ f → flag_of 11 k ≡ o
@@ -88,10 +88,10 @@ canonical_parts vs_ids fs_ids s low =
   where
     by_parts : (p : PrerastPart) → p.retain ≡ s.prerast.retain → p.discard ≡ s.prerast.discard → (f : Option FragmentPart) (o : Option OutputPart)
         → (s.vertex.retain && p.retain
-            && (p.discard || (option_map_or (λ (f : FragmentPart). f.retain) (option_map (canonical_fragment fs_ids) f) false
-                && option_map_or (λ (o : OutputPart). o.retain) (option_map canonical_output o) false)))
-          ≡ (s.vertex.retain && s.prerast.retain
-            && (s.prerast.discard || (option_map_or (λ (f : FragmentPart). f.retain) f false && option_map_or (λ (o : OutputPart). o.retain) o false)))
+        && (p.discard || (option_map_or (λ (f : FragmentPart). f.retain) (option_map (canonical_fragment fs_ids) f) false
+        && option_map_or (λ (o : OutputPart). o.retain) (option_map canonical_output o) false)))
+        ≡ (s.vertex.retain && s.prerast.retain
+        && (s.prerast.discard || (option_map_or (λ (f : FragmentPart). f.retain) f false && option_map_or (λ (o : OutputPart). o.retain) o false)))
     by_parts p retained discarded None None = rw (retained, discarded) refl
     by_parts p retained discarded None (Some o) = rw (retained, discarded) refl
     by_parts p retained discarded (Some f) None = rw (retained, discarded) refl

@@ -1,6 +1,6 @@
 -- The numbers by which a module's specialization constants are set are one list.
 use Rattle.std.proofs.Common.{◌≡◌, ℕ, zero, suc, ◌<◌, ◌≤◌, ◌&&◌, ◌||◌, ◌==◌, Bool, true, false, cond, List, [], ◌∷◌, length, refl, ap, subst, sym, ◌∙◌, arith}
-use Rattle.std.specs.Prelude.{⊤, nat_lt, map, filter, slice_index, IsTrue}
+use Rattle.std.specs.Prelude.{⊤, nat_lt, map, filter, slice_index}
 use Rattle.std.specs.List.{fold, list_any}
 use Rattle.std.proofs.lemmas.Bool.Decides.{nat_tests}
 use Rattle.spirv_model.specs.declared.module.Inst.{Inst}
@@ -118,7 +118,7 @@ among_numbers id (inst ∷ insts) = by_test (gives_spec_id inst) (among_numbers 
   where
     by_test : (gives : Bool) → is_among id (numbers_in insts) ≡ list_any (has_spec_id id) insts
         → is_among id (map (word_at 2) (cond gives (inst ∷ filter gives_spec_id insts) (filter gives_spec_id insts)))
-            ≡ ((gives && (word_at 2 inst == id)) || list_any (has_spec_id id) insts)
+        ≡ ((gives && (word_at 2 inst == id)) || list_any (has_spec_id id) insts)
     by_test true behind = ap (λ b. (word_at 2 inst == id) || b) behind
     by_test false behind = behind
 

@@ -1,19 +1,16 @@
 -- Each limit of a trace as a plain number, and as many objects as there may be, and one more.
-use Rattle.std.proofs.Common.{◌≡◌, ℕ, ◌+◌, ◌*◌, ◌<◌, Bool, true, false, List, [], ◌∷◌, replicate, refl}
-use Rattle.std.specs.Prelude.{codes, map, length, nat_lt, Option, None, Some, Result, Ok, Err}
+use Rattle.std.proofs.Common.{◌≡◌, ℕ, ◌+◌, Bool, true, false, List, [], ◌∷◌, replicate, refl}
+use Rattle.std.specs.Prelude.{map}
 use Rattle.state_model.specs.declared.parts.Layout.{Layout}
-use Rattle.spirv_model.specs.declared.module.Words.{Words}
 use Rattle.draw_model.specs.declared.framebuffer.Target.{Target}
 use Rattle.trace_model.specs.declared.limit.TheConstants.{BUFFERS, BUFFER_WORDS, LAYOUTS, LIBRARIES, PIPES, PIPE_LIBRARIES, TARGETS, TARGET_WORDS, DRAWS, RECORDERS, FIRST_ATTACHMENTS, FIRST_ENTRIES}
-use Rattle.trace_model.specs.declared.line_fault.Cause.TheVariants.{TooLong}
-use Rattle.trace_model.specs.declared.whole.Library.{Library}
 use Rattle.trace_model.specs.declared.whole.Library.TheVariants as library
 use Rattle.trace_model.specs.declared.whole.Step.{Step}
 use Rattle.trace_model.specs.declared.whole.Step.TheVariants.{Scissor, Draw}
 use Rattle.trace_model.specs.declared.whole.Trace.{Trace}
 use Rattle.state_model.specs.declared.parts.Topology.TheVariants.{Points}
-use Rattle.trace_model.specs.Lines.{VertexLine, Line, data_line, code_line, layout_line, vertex_line, output_line, pipe_line, target_line, step_line}
-use Rattle.trace_model.specs.LinesBefore.{Before, nothing_before, with_trace, layout_at, vertex_part}
+use Rattle.trace_model.specs.Lines.{VertexLine, Line, data_line, code_line, layout_line, vertex_line, pipe_line, target_line, step_line}
+use Rattle.trace_model.specs.LinesBefore.{nothing_before, with_trace, layout_at, vertex_part}
 use Rattle.trace_model.specs.ObjectCauses.{is_too_many}
 use Rattle.trace_model.specs.SetupLines.{cleared}
 

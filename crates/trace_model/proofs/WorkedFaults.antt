@@ -1,12 +1,12 @@
 -- Texts that are no traces: the first faulty line, and the first cause on it, for each cause.
-use Rattle.std.proofs.Common.{◌≡◌, ℕ, ◌+◌, ◌<◌, Bool, true, false, not, List, [], ◌∷◌, ◌++◌, replicate, refl}
-use Rattle.std.specs.Prelude.{codes, map, length, Option, None, Some, Result, Ok, Err, nat_lt}
+use Rattle.std.proofs.Common.{◌≡◌, ℕ, List, [], ◌∷◌, ◌++◌, replicate, refl}
+use Rattle.std.specs.Prelude.{codes, map, Option, None, Some}
 use Rattle.std.specs.Result.{result_err}
 use Rattle.spirv_model.specs.declared.module.WordsFault.TheVariants as words
 use Rattle.check_model.specs.declared.fault.CheckFault.TheVariants as fault
 use Rattle.trace_model.specs.declared.line_fault.TraceFault.{TraceFault}
 use Rattle.trace_model.specs.declared.line_fault.Cause.{Cause}
-use Rattle.trace_model.specs.declared.line_fault.Cause.TheVariants.{TooLong, NoHeader, BadLine, TooMany, Unknown, BadModule, BadPart, ForeignTarget}
+use Rattle.trace_model.specs.declared.line_fault.Cause.TheVariants.{NoHeader, BadLine, Unknown, BadModule, BadPart, ForeignTarget}
 use Rattle.check_model.specs.Interfaces.{inputs_of, outputs_of, stage_of}
 use Rattle.spirv_model.specs.Module.{list_of_cut}
 use Rattle.spirv_model.specs.Operands.{class_of, entry_of, kinds, result}

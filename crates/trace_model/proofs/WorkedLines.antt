@@ -1,5 +1,5 @@
 -- Lines of each form, at both ends of its ranges, and lines that have no form, by computing.
-use Rattle.std.proofs.Common.{◌≡◌, ℕ, Bool, true, false, not, List, [], ◌∷◌, refl}
+use Rattle.std.proofs.Common.{◌≡◌, ℕ, Bool, true, not, List, [], ◌∷◌, refl}
 use Rattle.std.specs.Prelude.{codes, is_some}
 use Rattle.std.specs.List.{list_all, list_any}
 use Rattle.trace_model.specs.declared.whole.Version.{Version}

@@ -1,6 +1,6 @@
 -- Worked traces, from their text to what `links` and `check` print, and to their keys.
 use Rattle.std.proofs.Common.{◌≡◌, ℕ, List, [], ◌∷◌, ◌++◌, replicate, refl}
-use Rattle.std.specs.Prelude.{codes, map, length, Result, Ok, Err}
+use Rattle.std.specs.Prelude.{codes, length, Result, Ok, Err}
 use Rattle.body_model.proofs.SampleModules.{f6_words}
 use Rattle.trace_model.specs.declared.whole.Trace.{Trace}
 use Rattle.trace_model.specs.declared.line_fault.TraceFault.{TraceFault}

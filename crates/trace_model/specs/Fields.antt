@@ -2,7 +2,6 @@
 use Rattle.std.specs.Prelude.{ℕ, suc, ◌-◌, ◌^◌, Bool, true, false, ◌||◌, ◌==◌, nat_lt, nat_le, bytes_eq, if◌then◌else◌, List, [], ◌∷◌, length, codes, Option, None, Some}
 use Rattle.std.specs.List.{slice_split, position}
 use Rattle.std.specs.Option.{option_map}
-use Rattle.state_model.specs.declared.format.TheConstants.{FORMAT_R32_UINT, FORMAT_R32G32_UINT, FORMAT_R32G32B32_UINT, FORMAT_R32G32B32A32_UINT, FORMAT_R32_SINT, FORMAT_R32G32_SINT, FORMAT_R32G32B32_SINT, FORMAT_R32G32B32A32_SINT}
 use Rattle.state_model.specs.declared.vulkan.TheConstants.{SAMPLE_COUNT_1, SAMPLE_COUNT_2, SAMPLE_COUNT_4}
 use Rattle.state_model.specs.declared.parts.Multisample.{Multisample}
 use Rattle.draw_model.specs.declared.framebuffer.TheConstants.{DEPTH_FORMAT}

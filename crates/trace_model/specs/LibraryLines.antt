@@ -1,5 +1,5 @@
 -- The forms of the lines that make libraries, by their fields after the first.
-use Rattle.std.specs.Prelude.{ℕ, ◌+◌, ◌-◌, ◌^◌, Bool, ◌==◌, nat_le, if◌then◌else◌, List, [], ◌∷◌, ◌++◌, length, take, drop, map, replicate, codes, Option, None, Some}
+use Rattle.std.specs.Prelude.{ℕ, ◌-◌, ◌^◌, ◌==◌, nat_le, if◌then◌else◌, List, [], ◌∷◌, ◌++◌, length, take, drop, replicate, codes, Option, None, Some}
 use Rattle.std.specs.List.{slice_split}
 use Rattle.limits.specs.declared.TheConstants.{LOCATIONS, VERTEX_BINDINGS, ENTRIES, ATTACHMENTS, MAX_STRIDE, MAX_OFFSET}
 use Rattle.state_model.specs.declared.TheConstants.{VIEWS}
@@ -16,7 +16,7 @@ use Rattle.trace_model.specs.declared.limit.TheConstants.{FIRST_ATTACHMENTS, FIR
 use Rattle.trace_model.specs.declared.whole.Version.{Version}
 use Rattle.trace_model.specs.declared.whole.Version.TheVariants.{First, Second}
 use Rattle.trace_model.specs.Text.{◌>>=◌, word_value}
-use Rattle.trace_model.specs.Fields.{each, exactly, at_most, number_value, range_value, below, flag_value, optional, word_choice, colon_parts, mask_value, multisample_value, colour_value}
+use Rattle.trace_model.specs.Fields.{exactly, at_most, number_value, range_value, below, flag_value, optional, word_choice, colon_parts, mask_value, multisample_value, colour_value}
 use Rattle.trace_model.specs.Lines.{LocatedAttribute, Line, vertex_line, prerast_line, fragment_line, output_line}
 
 -- ---- widths by version

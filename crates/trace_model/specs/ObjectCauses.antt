@@ -1,5 +1,5 @@
 -- Causes that ask which objects there are: too many of them, one that no earlier line made, and one of another recorder.
-use Rattle.std.specs.Prelude.{ℕ, ◌+◌, Bool, true, false, not, ◌||◌, ◌==◌, nat_lt, nat_le, List, length, sum, Option, None, Some}
+use Rattle.std.specs.Prelude.{ℕ, ◌+◌, Bool, true, false, not, ◌||◌, ◌==◌, nat_lt, nat_le, List, length, Option, None, Some}
 use Rattle.std.specs.List.{list_any, count_by, sum_by, slice_get}
 use Rattle.std.specs.Option.{option_map_or}
 use Rattle.limits.specs.declared.TheConstants.{MODULES}

@@ -1,5 +1,5 @@
 -- The cause BadPart: a library contradicts itself, or its module isn't of its stage or uses what its layout doesn't have.
-use Rattle.std.specs.Prelude.{ℕ, ◌+◌, ◌*◌, Bool, true, false, not, ◌&&◌, ◌||◌, ◌==◌, nat_lt, if◌then◌else◌, List, [], ◌∷◌, map, Option, None, Some, is_none}
+use Rattle.std.specs.Prelude.{ℕ, ◌+◌, ◌*◌, Bool, true, false, not, ◌&&◌, ◌||◌, nat_lt, List, map, Option, None, Some, is_none}
 use Rattle.std.specs.List.{list_any, slice_get}
 use Rattle.std.specs.Option.{option_map_or}
 use Rattle.spirv_model.specs.declared.module.Inst.{Inst}
@@ -18,7 +18,7 @@ use Rattle.check_model.specs.declared.stage.Stage.TheVariants.{Vertex, Fragment}
 use Rattle.check_model.specs.Interfaces.{stage_of}
 use Rattle.stage_model.specs.Program.{program_of, held_type, block_offsets}
 use Rattle.draw_model.specs.Pixel.{has_bit}
-use Rattle.trace_model.specs.Lines.{LocatedAttribute, VertexLine, PrerastLine, FragmentLine, Line, vertex_line, prerast_line, fragment_line}
+use Rattle.trace_model.specs.Lines.{LocatedAttribute, VertexLine, Line, vertex_line, prerast_line, fragment_line}
 use Rattle.trace_model.specs.LinesBefore.{Before, layout_at}
 
 -- ---- vertex input

@@ -1,7 +1,6 @@
 -- What is printed of a trace: its targets and refused draws (`play`), its modules (`check`) and its pipes (`links`).
-use Rattle.std.specs.Prelude.{ℕ, zero, suc, ◌+◌, ◌-◌, ◌*◌, ◌==◌, Bool, false, true, List, [], ◌∷◌, ◌++◌, length, take, drop, codes, slice_index_or, is_some, Option, None, Some}
+use Rattle.std.specs.Prelude.{ℕ, zero, suc, ◌-◌, ◌*◌, false, true, List, [], ◌∷◌, ◌++◌, length, take, drop, codes, slice_index_or, is_some, Option, None, Some}
 use Rattle.std.specs.List.{flat_map, count_by, enumerate_from, join_by, range_with_len}
-use Rattle.std.specs.Option.{option_map_or}
 use Rattle.std.specs.Fmt.{decimal}
 use Rattle.spirv_model.specs.declared.module.Words.{Words}
 use Rattle.spirv_model.specs.Module.{module_words}

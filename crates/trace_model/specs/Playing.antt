@@ -1,5 +1,5 @@
 -- What a trace means: its targets after all draws, the draws that are refused, and the keys of the others.
-use Rattle.std.specs.Prelude.{ℕ, ◌+◌, ◌*◌, Bool, false, not, List, [], ◌∷◌, ◌++◌, map, filter, replicate, slice_index_or, slice_set, bytes_eq, if◌then◌else◌, Option, None, Some}
+use Rattle.std.specs.Prelude.{ℕ, false, List, [], ◌∷◌, ◌++◌, map, filter, replicate, slice_index_or, slice_set, bytes_eq, if◌then◌else◌, Option, None}
 use Rattle.std.specs.List.{fold, list_any, filter_map, enumerate_from}
 use Rattle.std.specs.Option.{option_map, option_map_or}
 use Rattle.limits.specs.declared.TheConstants.{PUSH_WORDS, VERTEX_BINDINGS, DESCRIPTOR_SETS, DESCRIPTOR_BINDINGS, ATTACHMENTS, MAX_SIDE}

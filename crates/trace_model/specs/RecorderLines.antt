@@ -4,7 +4,6 @@ use Rattle.limits.specs.declared.TheConstants.{PUSH_WORDS, VERTEX_BINDINGS, DESC
 use Rattle.state_model.specs.Lawful.{present_at}
 use Rattle.draw_model.specs.declared.command.TheConstants.{DRAW_VERTICES}
 use Rattle.trace_model.specs.declared.limit.TheConstants.{RECORDERS}
-use Rattle.trace_model.specs.declared.whole.Step.{Step}
 use Rattle.trace_model.specs.declared.whole.Step.TheVariants.{Push, Vbuf, Ubuf, Scissor, Bind, Draw}
 use Rattle.trace_model.specs.declared.whole.Version.{Version}
 use Rattle.trace_model.specs.Text.{◌>>=◌, word_value}

@@ -1,5 +1,5 @@
-use draw_model::framebuffer::Target;
 use draw_model::DrawCall;
+use draw_model::framebuffer::Target;
 use limits::ATTACHMENTS;
 use spirv_model::Words;
 use sqlite_items::Items;
@@ -22,9 +22,15 @@ pub enum Library {
 #[derive(Debug, Drop)]
 pub enum Step {
     /// These push constants, from the one with this number on.
-    Push { at: u8, words: Items<u32> },
+    Push {
+        at: u8,
+        words: Items<u32>,
+    },
     /// The buffer for a vertex binding, by its number, or none.
-    Vbuf { slot: u8, buffer: Option<u16> },
+    Vbuf {
+        slot: u8,
+        buffer: Option<u16>,
+    },
     /// The buffer for a binding of a descriptor set, by its number, or none.
     Ubuf {
         set: u8,
@@ -32,14 +38,19 @@ pub enum Step {
         buffer: Option<u16>,
     },
     /// The scissor's left side, upper side, width and height, in pixels.
-    Scissor { rect: [u32; 4] },
+    Scissor {
+        rect: [u32; 4],
+    },
     /// The targets by their numbers: one for each location, and the one for depth.
     Bind {
         colour: [Option<u16>; ATTACHMENTS],
         depth: Option<u16>,
     },
     /// A draw with a pipe, by its number.
-    Draw { pipe: u16, call: DrawCall },
+    Draw {
+        pipe: u16,
+        call: DrawCall,
+    },
 }
 
 /// A whole trace: the objects that its lines make, each kind by number, and what its recorders record. What a line of version
