@@ -61,30 +61,30 @@ unfolding reading cause_of line_of version_of data_form code_form layout_form pi
 no_lines = refl
 
 -- 100 divided by the default, and by an entry of 0
-pub quotient : play_of (text_of (codes "gplt 1" ∷ v1_line ∷ f2_line ∷ codes "layout 0 0 - - - -" ∷ codes "vertex 1 points - - - -" ∷ codes "prerast 1 0 0 0 0 0 cw" ∷ codes "fragment 1 1 0 0 - -" ∷ codes "output 1 0 1:1 - u1:1 - - -" ∷ codes "pipe 0 1 2 3" ∷ codes "target 0 u1 2 1 1 1 ffffffff" ∷ codes "bind 0 0 - - - -" ∷ codes "draw 0 0 0 1 0 1" ∷ [])) ≡ Ok (codes "target 0 u1 2 1 1 1\n0000000e ffffffff\n")
+pub quotient : play_of (text_of (codes "gplt 1" ∷ v1_line ∷ f2_line ∷ codes "layout 0 0 - - - -" ∷ codes "vertex 1 points - - - -" ∷ codes "prerast 1 0 0 0 0 0 cw" ∷ codes "fragment 1 1 0 0 - -" ∷ codes "output 1 0 1:1 - u1:1 - - -" ∷ codes "pipe 0 1 2 3" ∷ codes "target 0 u1 2 1 1 1 ffffffff" ∷ codes "bind 0 0 - - - -" ∷ codes "scissor 0 0 0 2 1" ∷ codes "draw 0 0 0 1 0 1" ∷ [])) ≡ Ok (codes "target 0 u1 2 1 1 1\n0000000e ffffffff\n")
 unfolding reading cause_of line_of version_of data_form code_form layout_form pipe_form target_form vertex_form prerast_form fragment_form output_form push_form vbuf_form ubuf_form scissor_form bind_form draw_form after_line is_too_many is_unknown binds_foreign is_bad_part judged_by_words list_of_cut entry_of class_of kinds result stage_of inputs_of outputs_of facts_of model_of decoration_of offset_of type_of known_by known_after known_of definition opcode_of program_of layouts_by held_layout block_offsets first_label_place pipe_libraries pipe_state state_if_linked pipe_rule lacks_subset repeats_subset has_unused_subset independence_differs disagree layouts_disagree view_masks_differ multisample_differs unfed_input misfed_input lacks_retained rule_if rule_at failed_content_rule failed_rule after_step draws_of after_linked after_draw final_targets refused_draws targets_text play_text digits scalar_result word_from_word arithmetic bitwise comparison truth_from_truth truth_from_truths constant_of defined_by first_memory operation read_ids result_of effect_of read_values done step start_at position_left slots_left stage is_covered is_guarded edge_value is_top_or_left is_inside is_inside_all triangle_covers input_at stored_pixel invoked vertex_inputs fragment_inputs sample_place sample_words with_sample with_target usable depth_test write_at after_location after_sample vertex_outcome primitives fragments_of fragments fragment_stage fragment_outcome after_outcome image effort
 quotient = refl
 
-pub quotient_by_zero : play_of (text_of (codes "gplt 1" ∷ v1_line ∷ f2_line ∷ codes "layout 0 0 - - - -" ∷ codes "vertex 1 points - - - -" ∷ codes "prerast 1 0 0 0 0 0 cw" ∷ codes "fragment 1 1 0 0 - - 0=00000000" ∷ codes "output 1 0 1:1 - u1:1 - - -" ∷ codes "pipe 0 1 2 3" ∷ codes "target 0 u1 2 1 1 1 ffffffff" ∷ codes "bind 0 0 - - - -" ∷ codes "draw 0 0 0 1 0 1" ∷ [])) ≡ Ok (codes "target 0 u1 2 1 1 1\n00000000 ffffffff\n")
+pub quotient_by_zero : play_of (text_of (codes "gplt 1" ∷ v1_line ∷ f2_line ∷ codes "layout 0 0 - - - -" ∷ codes "vertex 1 points - - - -" ∷ codes "prerast 1 0 0 0 0 0 cw" ∷ codes "fragment 1 1 0 0 - - 0=00000000" ∷ codes "output 1 0 1:1 - u1:1 - - -" ∷ codes "pipe 0 1 2 3" ∷ codes "target 0 u1 2 1 1 1 ffffffff" ∷ codes "bind 0 0 - - - -" ∷ codes "scissor 0 0 0 2 1" ∷ codes "draw 0 0 0 1 0 1" ∷ [])) ≡ Ok (codes "target 0 u1 2 1 1 1\n00000000 ffffffff\n")
 unfolding reading cause_of line_of version_of data_form code_form layout_form pipe_form target_form vertex_form prerast_form fragment_form output_form push_form vbuf_form ubuf_form scissor_form bind_form draw_form after_line is_too_many is_unknown binds_foreign is_bad_part judged_by_words list_of_cut entry_of class_of kinds result stage_of inputs_of outputs_of facts_of model_of decoration_of offset_of type_of known_by known_after known_of definition opcode_of program_of layouts_by held_layout block_offsets first_label_place pipe_libraries pipe_state state_if_linked pipe_rule lacks_subset repeats_subset has_unused_subset independence_differs disagree layouts_disagree view_masks_differ multisample_differs unfed_input misfed_input lacks_retained rule_if rule_at failed_content_rule failed_rule after_step draws_of after_linked after_draw final_targets refused_draws targets_text play_text digits scalar_result word_from_word arithmetic bitwise comparison truth_from_truth truth_from_truths constant_of defined_by first_memory operation read_ids result_of effect_of read_values done step start_at position_left slots_left stage is_covered is_guarded edge_value is_top_or_left is_inside is_inside_all triangle_covers input_at stored_pixel invoked vertex_inputs fragment_inputs sample_place sample_words with_sample with_target usable depth_test write_at after_location after_sample vertex_outcome primitives fragments_of fragments fragment_stage fragment_outcome after_outcome image effort
 quotient_by_zero = refl
 
 -- a selection by a specialization constant, and the other way
-pub chosen_arm : play_of (text_of (codes "gplt 1" ∷ v1_line ∷ (code_line_of f5_words) ∷ codes "layout 0 0 - - - -" ∷ codes "vertex 1 points - - - -" ∷ codes "prerast 1 0 0 0 0 0 cw" ∷ codes "fragment 1 1 0 0 - -" ∷ codes "output 1 0 1:1 - u1:1 - - -" ∷ codes "pipe 0 1 2 3" ∷ codes "target 0 u1 2 1 1 1 ffffffff" ∷ codes "bind 0 0 - - - -" ∷ codes "draw 0 0 0 1 0 1" ∷ [])) ≡ Ok (codes "target 0 u1 2 1 1 1\n0000000b ffffffff\n")
+pub chosen_arm : play_of (text_of (codes "gplt 1" ∷ v1_line ∷ (code_line_of f5_words) ∷ codes "layout 0 0 - - - -" ∷ codes "vertex 1 points - - - -" ∷ codes "prerast 1 0 0 0 0 0 cw" ∷ codes "fragment 1 1 0 0 - -" ∷ codes "output 1 0 1:1 - u1:1 - - -" ∷ codes "pipe 0 1 2 3" ∷ codes "target 0 u1 2 1 1 1 ffffffff" ∷ codes "bind 0 0 - - - -" ∷ codes "scissor 0 0 0 2 1" ∷ codes "draw 0 0 0 1 0 1" ∷ [])) ≡ Ok (codes "target 0 u1 2 1 1 1\n0000000b ffffffff\n")
 unfolding reading cause_of line_of version_of data_form code_form layout_form pipe_form target_form vertex_form prerast_form fragment_form output_form push_form vbuf_form ubuf_form scissor_form bind_form draw_form after_line is_too_many is_unknown binds_foreign is_bad_part judged_by_words list_of_cut entry_of class_of kinds result stage_of inputs_of outputs_of facts_of model_of decoration_of offset_of type_of known_by known_after known_of definition opcode_of program_of layouts_by held_layout block_offsets first_label_place pipe_libraries pipe_state state_if_linked pipe_rule lacks_subset repeats_subset has_unused_subset independence_differs disagree layouts_disagree view_masks_differ multisample_differs unfed_input misfed_input lacks_retained rule_if rule_at failed_content_rule failed_rule after_step draws_of after_linked after_draw final_targets refused_draws targets_text play_text digits scalar_result word_from_word arithmetic bitwise comparison truth_from_truth truth_from_truths constant_of defined_by first_memory operation read_ids result_of effect_of read_values done step start_at position_left slots_left stage is_covered is_guarded edge_value is_top_or_left is_inside is_inside_all triangle_covers input_at stored_pixel invoked vertex_inputs fragment_inputs sample_place sample_words with_sample with_target usable depth_test write_at after_location after_sample vertex_outcome primitives fragments_of fragments fragment_stage fragment_outcome after_outcome image effort
 chosen_arm = refl
 
-pub other_arm : play_of (text_of (codes "gplt 1" ∷ v1_line ∷ (code_line_of f5_words) ∷ codes "layout 0 0 - - - -" ∷ codes "vertex 1 points - - - -" ∷ codes "prerast 1 0 0 0 0 0 cw" ∷ codes "fragment 1 1 0 0 - - 2=00000000" ∷ codes "output 1 0 1:1 - u1:1 - - -" ∷ codes "pipe 0 1 2 3" ∷ codes "target 0 u1 2 1 1 1 ffffffff" ∷ codes "bind 0 0 - - - -" ∷ codes "draw 0 0 0 1 0 1" ∷ [])) ≡ Ok (codes "target 0 u1 2 1 1 1\n00000016 ffffffff\n")
+pub other_arm : play_of (text_of (codes "gplt 1" ∷ v1_line ∷ (code_line_of f5_words) ∷ codes "layout 0 0 - - - -" ∷ codes "vertex 1 points - - - -" ∷ codes "prerast 1 0 0 0 0 0 cw" ∷ codes "fragment 1 1 0 0 - - 2=00000000" ∷ codes "output 1 0 1:1 - u1:1 - - -" ∷ codes "pipe 0 1 2 3" ∷ codes "target 0 u1 2 1 1 1 ffffffff" ∷ codes "bind 0 0 - - - -" ∷ codes "scissor 0 0 0 2 1" ∷ codes "draw 0 0 0 1 0 1" ∷ [])) ≡ Ok (codes "target 0 u1 2 1 1 1\n00000016 ffffffff\n")
 unfolding reading cause_of line_of version_of data_form code_form layout_form pipe_form target_form vertex_form prerast_form fragment_form output_form push_form vbuf_form ubuf_form scissor_form bind_form draw_form after_line is_too_many is_unknown binds_foreign is_bad_part judged_by_words list_of_cut entry_of class_of kinds result stage_of inputs_of outputs_of facts_of model_of decoration_of offset_of type_of known_by known_after known_of definition opcode_of program_of layouts_by held_layout block_offsets first_label_place pipe_libraries pipe_state state_if_linked pipe_rule lacks_subset repeats_subset has_unused_subset independence_differs disagree layouts_disagree view_masks_differ multisample_differs unfed_input misfed_input lacks_retained rule_if rule_at failed_content_rule failed_rule after_step draws_of after_linked after_draw final_targets refused_draws targets_text play_text digits scalar_result word_from_word arithmetic bitwise comparison truth_from_truth truth_from_truths constant_of defined_by first_memory operation read_ids result_of effect_of read_values done step start_at position_left slots_left stage is_covered is_guarded edge_value is_top_or_left is_inside is_inside_all triangle_covers input_at stored_pixel invoked vertex_inputs fragment_inputs sample_place sample_words with_sample with_target usable depth_test write_at after_location after_sample vertex_outcome primitives fragments_of fragments fragment_stage fragment_outcome after_outcome image effort
 other_arm = refl
 
 -- a loop of three turns
-pub three_turns : play_of (text_of (codes "gplt 1" ∷ v1_line ∷ (code_line_of f3_words) ∷ codes "layout 0 0 - - - -" ∷ codes "vertex 1 points - - - -" ∷ codes "prerast 1 0 0 0 0 0 cw" ∷ codes "fragment 1 1 0 0 - -" ∷ codes "output 1 0 1:1 - u1:1 - - -" ∷ codes "pipe 0 1 2 3" ∷ codes "target 0 u1 2 1 1 1 ffffffff" ∷ codes "bind 0 0 - - - -" ∷ codes "draw 0 0 0 1 0 1" ∷ [])) ≡ Ok (codes "target 0 u1 2 1 1 1\n00000003 ffffffff\n")
+pub three_turns : play_of (text_of (codes "gplt 1" ∷ v1_line ∷ (code_line_of f3_words) ∷ codes "layout 0 0 - - - -" ∷ codes "vertex 1 points - - - -" ∷ codes "prerast 1 0 0 0 0 0 cw" ∷ codes "fragment 1 1 0 0 - -" ∷ codes "output 1 0 1:1 - u1:1 - - -" ∷ codes "pipe 0 1 2 3" ∷ codes "target 0 u1 2 1 1 1 ffffffff" ∷ codes "bind 0 0 - - - -" ∷ codes "scissor 0 0 0 2 1" ∷ codes "draw 0 0 0 1 0 1" ∷ [])) ≡ Ok (codes "target 0 u1 2 1 1 1\n00000003 ffffffff\n")
 unfolding reading cause_of line_of version_of data_form code_form layout_form pipe_form target_form vertex_form prerast_form fragment_form output_form push_form vbuf_form ubuf_form scissor_form bind_form draw_form after_line is_too_many is_unknown binds_foreign is_bad_part judged_by_words list_of_cut entry_of class_of kinds result stage_of inputs_of outputs_of facts_of model_of decoration_of offset_of type_of known_by known_after known_of definition opcode_of program_of layouts_by held_layout block_offsets first_label_place pipe_libraries pipe_state state_if_linked pipe_rule lacks_subset repeats_subset has_unused_subset independence_differs disagree layouts_disagree view_masks_differ multisample_differs unfed_input misfed_input lacks_retained rule_if rule_at failed_content_rule failed_rule after_step draws_of after_linked after_draw final_targets refused_draws targets_text play_text digits scalar_result word_from_word arithmetic bitwise comparison truth_from_truth truth_from_truths constant_of defined_by first_memory operation read_ids result_of effect_of read_values done step start_at position_left slots_left stage is_covered is_guarded edge_value is_top_or_left is_inside is_inside_all triangle_covers input_at stored_pixel invoked vertex_inputs fragment_inputs sample_place sample_words with_sample with_target usable depth_test write_at after_location after_sample vertex_outcome primitives fragments_of fragments fragment_stage fragment_outcome after_outcome image effort
 three_turns = refl
 
 -- an input without a producer is 0
-pub no_producer : play_of (text_of (codes "gplt 1" ∷ v1_line ∷ (code_line_of f6_words) ∷ codes "layout 0 0 - - - -" ∷ codes "vertex 1 points - - - -" ∷ codes "prerast 1 0 0 0 0 0 cw" ∷ codes "fragment 1 1 0 0 - -" ∷ codes "output 1 0 1:1 - u1:1 - - -" ∷ codes "pipe 0 1 2 3" ∷ codes "target 0 u1 2 1 1 1 ffffffff" ∷ codes "bind 0 0 - - - -" ∷ codes "draw 0 0 0 1 0 1" ∷ [])) ≡ Ok (codes "target 0 u1 2 1 1 1\n00000001 ffffffff\n")
+pub no_producer : play_of (text_of (codes "gplt 1" ∷ v1_line ∷ (code_line_of f6_words) ∷ codes "layout 0 0 - - - -" ∷ codes "vertex 1 points - - - -" ∷ codes "prerast 1 0 0 0 0 0 cw" ∷ codes "fragment 1 1 0 0 - -" ∷ codes "output 1 0 1:1 - u1:1 - - -" ∷ codes "pipe 0 1 2 3" ∷ codes "target 0 u1 2 1 1 1 ffffffff" ∷ codes "bind 0 0 - - - -" ∷ codes "scissor 0 0 0 2 1" ∷ codes "draw 0 0 0 1 0 1" ∷ [])) ≡ Ok (codes "target 0 u1 2 1 1 1\n00000001 ffffffff\n")
 unfolding reading cause_of line_of version_of data_form code_form layout_form pipe_form target_form vertex_form prerast_form fragment_form output_form push_form vbuf_form ubuf_form scissor_form bind_form draw_form after_line is_too_many is_unknown binds_foreign is_bad_part judged_by_words list_of_cut entry_of class_of kinds result stage_of inputs_of outputs_of facts_of model_of decoration_of offset_of type_of known_by known_after known_of definition opcode_of program_of layouts_by held_layout block_offsets first_label_place pipe_libraries pipe_state state_if_linked pipe_rule lacks_subset repeats_subset has_unused_subset independence_differs disagree layouts_disagree view_masks_differ multisample_differs unfed_input misfed_input lacks_retained rule_if rule_at failed_content_rule failed_rule after_step draws_of after_linked after_draw final_targets refused_draws targets_text play_text digits scalar_result word_from_word arithmetic bitwise comparison truth_from_truth truth_from_truths constant_of defined_by first_memory operation read_ids result_of effect_of read_values done step start_at position_left slots_left stage is_covered is_guarded edge_value is_top_or_left is_inside is_inside_all triangle_covers input_at stored_pixel invoked vertex_inputs fragment_inputs sample_place sample_words with_sample with_target usable depth_test write_at after_location after_sample vertex_outcome primitives fragments_of fragments fragment_stage fragment_outcome after_outcome image effort
 no_producer = refl
 
@@ -94,11 +94,11 @@ unfolding reading cause_of line_of version_of data_form code_form layout_form pi
 shared_edge = refl
 
 -- a depth of 5 against 5: less, and less or equal
-pub not_less : play_of (text_of (codes "gplt 1" ∷ codes "data 00000080 00000080 00000005 00000000" ∷ v2_line ∷ f1_line ∷ codes "layout 0 0 - - - -" ∷ codes "vertex 1 points v:4 - - - 0:0:s4:0" ∷ codes "prerast 1 0 0 0 0 0 cw" ∷ codes "fragment 1 1 0 0 1:1 -" ∷ codes "output 1 0 1:1 - u1:1 - - -" ∷ codes "pipe 0 1 2 3" ∷ codes "target 0 u1 2 1 1 1 00000000" ∷ codes "target 0 z 2 1 1 1 00000005" ∷ codes "vbuf 0 0 0" ∷ codes "bind 0 0 - - - 1" ∷ codes "draw 0 0 0 1 0 1" ∷ [])) ≡ Ok (codes "target 0 u1 2 1 1 1\n00000000 00000000\ntarget 1 z 2 1 1 1\n00000005 00000005\n")
+pub not_less : play_of (text_of (codes "gplt 1" ∷ codes "data 00000080 00000080 00000005 00000000" ∷ v2_line ∷ f1_line ∷ codes "layout 0 0 - - - -" ∷ codes "vertex 1 points v:4 - - - 0:0:s4:0" ∷ codes "prerast 1 0 0 0 0 0 cw" ∷ codes "fragment 1 1 0 0 1:1 -" ∷ codes "output 1 0 1:1 - u1:1 - - -" ∷ codes "pipe 0 1 2 3" ∷ codes "target 0 u1 2 1 1 1 00000000" ∷ codes "target 0 z 2 1 1 1 00000005" ∷ codes "vbuf 0 0 0" ∷ codes "bind 0 0 - - - 1" ∷ codes "scissor 0 0 0 2 1" ∷ codes "draw 0 0 0 1 0 1" ∷ [])) ≡ Ok (codes "target 0 u1 2 1 1 1\n00000000 00000000\ntarget 1 z 2 1 1 1\n00000005 00000005\n")
 unfolding reading cause_of line_of version_of data_form code_form layout_form pipe_form target_form vertex_form prerast_form fragment_form output_form push_form vbuf_form ubuf_form scissor_form bind_form draw_form after_line is_too_many is_unknown binds_foreign is_bad_part judged_by_words list_of_cut entry_of class_of kinds result stage_of inputs_of outputs_of facts_of model_of decoration_of offset_of type_of known_by known_after known_of definition opcode_of program_of layouts_by held_layout block_offsets first_label_place pipe_libraries pipe_state state_if_linked pipe_rule lacks_subset repeats_subset has_unused_subset independence_differs disagree layouts_disagree view_masks_differ multisample_differs unfed_input misfed_input lacks_retained rule_if rule_at failed_content_rule failed_rule after_step draws_of after_linked after_draw final_targets refused_draws targets_text play_text digits scalar_result word_from_word arithmetic bitwise comparison truth_from_truth truth_from_truths constant_of defined_by first_memory operation read_ids result_of effect_of read_values done step start_at position_left slots_left stage is_covered is_guarded edge_value is_top_or_left is_inside is_inside_all triangle_covers input_at stored_pixel invoked vertex_inputs fragment_inputs sample_place sample_words with_sample with_target usable depth_test write_at after_location after_sample vertex_outcome primitives fragments_of fragments fragment_stage fragment_outcome after_outcome image effort
 not_less = refl
 
-pub not_greater : play_of (text_of (codes "gplt 1" ∷ codes "data 00000080 00000080 00000005 00000000" ∷ v2_line ∷ f1_line ∷ codes "layout 0 0 - - - -" ∷ codes "vertex 1 points v:4 - - - 0:0:s4:0" ∷ codes "prerast 1 0 0 0 0 0 cw" ∷ codes "fragment 1 1 0 0 3:1 -" ∷ codes "output 1 0 1:1 - u1:1 - - -" ∷ codes "pipe 0 1 2 3" ∷ codes "target 0 u1 2 1 1 1 00000000" ∷ codes "target 0 z 2 1 1 1 00000005" ∷ codes "vbuf 0 0 0" ∷ codes "bind 0 0 - - - 1" ∷ codes "draw 0 0 0 1 0 1" ∷ [])) ≡ Ok (codes "target 0 u1 2 1 1 1\n0000002a 00000000\ntarget 1 z 2 1 1 1\n00000005 00000005\n")
+pub not_greater : play_of (text_of (codes "gplt 1" ∷ codes "data 00000080 00000080 00000005 00000000" ∷ v2_line ∷ f1_line ∷ codes "layout 0 0 - - - -" ∷ codes "vertex 1 points v:4 - - - 0:0:s4:0" ∷ codes "prerast 1 0 0 0 0 0 cw" ∷ codes "fragment 1 1 0 0 3:1 -" ∷ codes "output 1 0 1:1 - u1:1 - - -" ∷ codes "pipe 0 1 2 3" ∷ codes "target 0 u1 2 1 1 1 00000000" ∷ codes "target 0 z 2 1 1 1 00000005" ∷ codes "vbuf 0 0 0" ∷ codes "bind 0 0 - - - 1" ∷ codes "scissor 0 0 0 2 1" ∷ codes "draw 0 0 0 1 0 1" ∷ [])) ≡ Ok (codes "target 0 u1 2 1 1 1\n0000002a 00000000\ntarget 1 z 2 1 1 1\n00000005 00000005\n")
 unfolding reading cause_of line_of version_of data_form code_form layout_form pipe_form target_form vertex_form prerast_form fragment_form output_form push_form vbuf_form ubuf_form scissor_form bind_form draw_form after_line is_too_many is_unknown binds_foreign is_bad_part judged_by_words list_of_cut entry_of class_of kinds result stage_of inputs_of outputs_of facts_of model_of decoration_of offset_of type_of known_by known_after known_of definition opcode_of program_of layouts_by held_layout block_offsets first_label_place pipe_libraries pipe_state state_if_linked pipe_rule lacks_subset repeats_subset has_unused_subset independence_differs disagree layouts_disagree view_masks_differ multisample_differs unfed_input misfed_input lacks_retained rule_if rule_at failed_content_rule failed_rule after_step draws_of after_linked after_draw final_targets refused_draws targets_text play_text digits scalar_result word_from_word arithmetic bitwise comparison truth_from_truth truth_from_truths constant_of defined_by first_memory operation read_ids result_of effect_of read_values done step start_at position_left slots_left stage is_covered is_guarded edge_value is_top_or_left is_inside is_inside_all triangle_covers input_at stored_pixel invoked vertex_inputs fragment_inputs sample_place sample_words with_sample with_target usable depth_test write_at after_location after_sample vertex_outcome primitives fragments_of fragments fragment_stage fragment_outcome after_outcome image effort
 not_greater = refl
 
@@ -108,7 +108,7 @@ unfolding reading cause_of line_of version_of data_form code_form layout_form pi
 discarded = refl
 
 -- a refused draw leaves the targets, and the next draw is numbered behind it
-pub refused : play_of (text_of (codes "gplt 1" ∷ v1_line ∷ f1_line ∷ codes "layout 0 0 - - - -" ∷ codes "vertex 1 points - - - -" ∷ codes "prerast 1 0 0 0 0 0 cw" ∷ codes "fragment 1 1 0 0 - -" ∷ codes "output 1 0 1:1 - u1:1 - - -" ∷ codes "pipe 0 1 2" ∷ codes "target 0 u1 2 1 1 1 00000000" ∷ codes "bind 0 0 - - - -" ∷ codes "pipe 0 1 2 3" ∷ codes "draw 0 0 0 1 0 1" ∷ codes "draw 0 1 0 1 0 1" ∷ codes "draw 0 0 0 1 0 1" ∷ [])) ≡ Ok (codes "target 0 u1 2 1 1 1\n0000002a 00000000\nrefused 0 L1\nrefused 2 L1\n")
+pub refused : play_of (text_of (codes "gplt 1" ∷ v1_line ∷ f1_line ∷ codes "layout 0 0 - - - -" ∷ codes "vertex 1 points - - - -" ∷ codes "prerast 1 0 0 0 0 0 cw" ∷ codes "fragment 1 1 0 0 - -" ∷ codes "output 1 0 1:1 - u1:1 - - -" ∷ codes "pipe 0 1 2" ∷ codes "target 0 u1 2 1 1 1 00000000" ∷ codes "bind 0 0 - - - -" ∷ codes "pipe 0 1 2 3" ∷ codes "scissor 0 0 0 2 1" ∷ codes "draw 0 0 0 1 0 1" ∷ codes "draw 0 1 0 1 0 1" ∷ codes "draw 0 0 0 1 0 1" ∷ [])) ≡ Ok (codes "target 0 u1 2 1 1 1\n0000002a 00000000\nrefused 0 L1\nrefused 2 L1\n")
 unfolding reading cause_of line_of version_of data_form code_form layout_form pipe_form target_form vertex_form prerast_form fragment_form output_form push_form vbuf_form ubuf_form scissor_form bind_form draw_form after_line is_too_many is_unknown binds_foreign is_bad_part judged_by_words list_of_cut entry_of class_of kinds result stage_of inputs_of outputs_of facts_of model_of decoration_of offset_of type_of known_by known_after known_of definition opcode_of program_of layouts_by held_layout block_offsets first_label_place pipe_libraries pipe_state state_if_linked pipe_rule lacks_subset repeats_subset has_unused_subset independence_differs disagree layouts_disagree view_masks_differ multisample_differs unfed_input misfed_input lacks_retained rule_if rule_at failed_content_rule failed_rule after_step draws_of after_linked after_draw final_targets refused_draws targets_text play_text digits scalar_result word_from_word arithmetic bitwise comparison truth_from_truth truth_from_truths constant_of defined_by first_memory operation read_ids result_of effect_of read_values done step start_at position_left slots_left stage is_covered is_guarded edge_value is_top_or_left is_inside is_inside_all triangle_covers input_at stored_pixel invoked vertex_inputs fragment_inputs sample_place sample_words with_sample with_target usable depth_test write_at after_location after_sample vertex_outcome primitives fragments_of fragments fragment_stage fragment_outcome after_outcome image effort
 refused = refl
 
@@ -131,10 +131,10 @@ unfolding reading cause_of line_of version_of data_form code_form layout_form pi
 no_buffer = refl
 
 -- version 2: location 7, and sixteen entries of which the module declares one
-pub last_attachment : play_of (text_of (codes "gplt 2" ∷ v1_line ∷ f1_at_7_line ∷ codes "layout 0 0 - - - -" ∷ codes "vertex 1 points - - - -" ∷ codes "prerast 1 0 0 0 0 0 cw" ∷ codes "fragment 1 1 0 0 - -" ∷ codes "output 1 0 1:1 - - - - - - - - u1:1" ∷ codes "pipe 0 1 2 3" ∷ codes "target 0 u1 2 1 1 1 00000000" ∷ codes "bind 0 - - - - - - - 0 -" ∷ codes "draw 0 0 0 1 0 1" ∷ [])) ≡ Ok (codes "target 0 u1 2 1 1 1\n0000002a 00000000\n")
+pub last_attachment : play_of (text_of (codes "gplt 2" ∷ v1_line ∷ f1_at_7_line ∷ codes "layout 0 0 - - - -" ∷ codes "vertex 1 points - - - -" ∷ codes "prerast 1 0 0 0 0 0 cw" ∷ codes "fragment 1 1 0 0 - -" ∷ codes "output 1 0 1:1 - - - - - - - - u1:1" ∷ codes "pipe 0 1 2 3" ∷ codes "target 0 u1 2 1 1 1 00000000" ∷ codes "bind 0 - - - - - - - 0 -" ∷ codes "scissor 0 0 0 2 1" ∷ codes "draw 0 0 0 1 0 1" ∷ [])) ≡ Ok (codes "target 0 u1 2 1 1 1\n0000002a 00000000\n")
 unfolding reading cause_of line_of version_of data_form code_form layout_form pipe_form target_form vertex_form prerast_form fragment_form output_form push_form vbuf_form ubuf_form scissor_form bind_form draw_form after_line is_too_many is_unknown binds_foreign is_bad_part judged_by_words list_of_cut entry_of class_of kinds result stage_of inputs_of outputs_of facts_of model_of decoration_of offset_of type_of known_by known_after known_of definition opcode_of program_of layouts_by held_layout block_offsets first_label_place pipe_libraries pipe_state state_if_linked pipe_rule lacks_subset repeats_subset has_unused_subset independence_differs disagree layouts_disagree view_masks_differ multisample_differs unfed_input misfed_input lacks_retained rule_if rule_at failed_content_rule failed_rule after_step draws_of after_linked after_draw final_targets refused_draws targets_text play_text digits scalar_result word_from_word arithmetic bitwise comparison truth_from_truth truth_from_truths constant_of defined_by first_memory operation read_ids result_of effect_of read_values done step start_at position_left slots_left stage is_covered is_guarded edge_value is_top_or_left is_inside is_inside_all triangle_covers input_at stored_pixel invoked vertex_inputs fragment_inputs sample_place sample_words with_sample with_target usable depth_test write_at after_location after_sample vertex_outcome primitives fragments_of fragments fragment_stage fragment_outcome after_outcome image effort
 last_attachment = refl
 
-pub sixteen_entries : play_of (text_of (codes "gplt 2" ∷ v1_line ∷ f2_line ∷ codes "layout 0 0 - - - -" ∷ codes "vertex 1 points - - - -" ∷ codes "prerast 1 0 0 0 0 0 cw" ∷ codes "fragment 1 1 0 0 - - 0=00000007 1=00000000 2=00000000 3=00000000 4=00000000 5=00000000 6=00000000 7=00000000 8=00000000 9=00000000 10=00000000 11=00000000 12=00000000 13=00000000 14=00000000 15=00000000" ∷ codes "output 1 0 1:1 - u1:1 - - - - - - -" ∷ codes "pipe 0 1 2 3" ∷ codes "target 0 u1 2 1 1 1 ffffffff" ∷ codes "bind 0 0 - - - - - - - -" ∷ codes "draw 0 0 0 1 0 1" ∷ [])) ≡ Ok (codes "target 0 u1 2 1 1 1\n0000000e ffffffff\n")
+pub sixteen_entries : play_of (text_of (codes "gplt 2" ∷ v1_line ∷ f2_line ∷ codes "layout 0 0 - - - -" ∷ codes "vertex 1 points - - - -" ∷ codes "prerast 1 0 0 0 0 0 cw" ∷ codes "fragment 1 1 0 0 - - 0=00000007 1=00000000 2=00000000 3=00000000 4=00000000 5=00000000 6=00000000 7=00000000 8=00000000 9=00000000 10=00000000 11=00000000 12=00000000 13=00000000 14=00000000 15=00000000" ∷ codes "output 1 0 1:1 - u1:1 - - - - - - -" ∷ codes "pipe 0 1 2 3" ∷ codes "target 0 u1 2 1 1 1 ffffffff" ∷ codes "bind 0 0 - - - - - - - -" ∷ codes "scissor 0 0 0 2 1" ∷ codes "draw 0 0 0 1 0 1" ∷ [])) ≡ Ok (codes "target 0 u1 2 1 1 1\n0000000e ffffffff\n")
 unfolding reading cause_of line_of version_of data_form code_form layout_form pipe_form target_form vertex_form prerast_form fragment_form output_form push_form vbuf_form ubuf_form scissor_form bind_form draw_form after_line is_too_many is_unknown binds_foreign is_bad_part judged_by_words list_of_cut entry_of class_of kinds result stage_of inputs_of outputs_of facts_of model_of decoration_of offset_of type_of known_by known_after known_of definition opcode_of program_of layouts_by held_layout block_offsets first_label_place pipe_libraries pipe_state state_if_linked pipe_rule lacks_subset repeats_subset has_unused_subset independence_differs disagree layouts_disagree view_masks_differ multisample_differs unfed_input misfed_input lacks_retained rule_if rule_at failed_content_rule failed_rule after_step draws_of after_linked after_draw final_targets refused_draws targets_text play_text digits scalar_result word_from_word arithmetic bitwise comparison truth_from_truth truth_from_truths constant_of defined_by first_memory operation read_ids result_of effect_of read_values done step start_at position_left slots_left stage is_covered is_guarded edge_value is_top_or_left is_inside is_inside_all triangle_covers input_at stored_pixel invoked vertex_inputs fragment_inputs sample_place sample_words with_sample with_target usable depth_test write_at after_location after_sample vertex_outcome primitives fragments_of fragments fragment_stage fragment_outcome after_outcome image effort
 sixteen_entries = refl
