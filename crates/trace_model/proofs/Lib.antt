@@ -1,3 +1,4 @@
+pub mod JudgedReadings
 pub mod Meanings
 pub mod ReadingLaws
 pub mod Samples
@@ -7,5 +8,6 @@ pub mod TraceLimits
 pub mod WorkedFaults
 pub mod WorkedLines
 pub mod WorkedPlays
+pub mod WorkedReadings
 pub mod WorkedText
 pub mod WorkedTexts
