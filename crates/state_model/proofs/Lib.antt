@@ -1,3 +1,4 @@
 mod KeyWords
 mod Links
 mod Numbers
+pub mod PipeKeys

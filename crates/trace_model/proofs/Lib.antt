@@ -1,3 +1,13 @@
+pub mod JudgedReadings
 pub mod Meanings
+pub mod ReadingLaws
 pub mod Samples
+pub mod SpecIdLaws
 pub mod Targets
+pub mod TraceLimits
+pub mod WorkedFaults
+pub mod WorkedLines
+pub mod WorkedPlays
+pub mod WorkedReadings
+pub mod WorkedText
+pub mod WorkedTexts
