@@ -151,9 +151,12 @@ fn structure(alloc: Global, count: usize) -> Result<Vec<u8>, AllocError> {
 }
 
 #[test]
-fn a_line_may_have_more_words_than_an_instruction(rt: HostRuntime) -> Result<(), Fail> {
+fn a_line_has_at_most_the_words_of_a_module(rt: HostRuntime) -> Result<(), Fail> {
     let most = structure(rt.alloc(), 16_377)?;
-    assert_eq!(rt; fault_of(rt.alloc(), &most), None);
+    let words = assemble(rt.alloc(), &most).ok().ok_or("refused")?;
+    assert_eq!(rt; words.len(), 16_384);
+    let listed = list_text(rt.alloc(), &words)?;
+    assert_eq!(rt; listed.as_slice(), most.as_slice());
     let more = structure(rt.alloc(), 70_000)?;
     assert_eq!(rt;
         fault_of(rt.alloc(), &more),
