@@ -1,3 +1,4 @@
+pub mod FieldNumbers
 pub mod JudgedReadings
 pub mod Meanings
 pub mod ReadingLaws
