@@ -46,7 +46,7 @@ limited limit n (b ∷ bs) low = by_digit (decimal_digit b) (λ digit within. li
 
     by_digit : (digit : Option ℕ) → ((digit : ℕ) → 10 * n + digit ≤ limit → decimal_onto limit (10 * n + digit) bs ≡ (value_onto (10 * n + digit) bs >>= if_within limit))
         → (digit >>= λ digit. cond (nat_le (10 * n + digit) limit) (decimal_onto limit (10 * n + digit) bs) None)
-            ≡ ((digit >>= λ digit. value_onto (10 * n + digit) bs) >>= if_within limit)
+        ≡ ((digit >>= λ digit. value_onto (10 * n + digit) bs) >>= if_within limit)
     by_digit None more = refl
     by_digit (Some digit) more = by_test (10 * n + digit) (nat_le (10 * n + digit) limit) refl (more digit)
 

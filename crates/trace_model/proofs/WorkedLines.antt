@@ -315,37 +315,49 @@ unfolding line_of layout_form
 said-layout = refl
 
 pub said-vertex : said (codes "vertex 1 triangles v:3 i:1024 - - 7:1:s3:1023 2:0:u4:5") ≡ Some (vertex_line (record {
-      retain = true;
-      topology = Triangles;
-      bindings = Some (record { stride = 3; per_instance = false }) ∷ Some (record { stride = 1024; per_instance = true }) ∷ None ∷ None ∷ [];
-      attributes =
-        record { location = 7; attribute = record { binding = 1; comps = 3; signed = true; offset = 1023 } }
-        ∷ record { location = 2; attribute = record { binding = 0; comps = 4; signed = false; offset = 5 } } ∷ [];
-    }))
+  retain = true;
+  topology = Triangles;
+  bindings = Some (record { stride = 3; per_instance = false }) ∷ Some (record { stride = 1024; per_instance = true }) ∷ None ∷ None ∷ [];
+  attributes =
+      record { location = 7; attribute = record { binding = 1; comps = 3; signed = true; offset = 1023 } }
+      ∷ record { location = 2; attribute = record { binding = 0; comps = 4; signed = false; offset = 5 } } ∷ [];
+}))
 unfolding line_of vertex_form
 said-vertex = refl
 
 pub said-prerast : said (codes "prerast 0 11 22 13 1 2 ccw 7=0000000a 6=ffffffff") ≡ Some (prerast_line (record {
-      retain = false; module_number = 11; layout_number = 22; view_mask = 13; discard = true; cull = 2; ccw = true;
-      entries = record { id = 7; value = 10 } ∷ record { id = 6; value = 0xffff_ffff } ∷ [];
-    }))
+  retain = false;
+  module_number = 11;
+  layout_number = 22;
+  view_mask = 13;
+  discard = true;
+  cull = 2;
+  ccw = true;
+  entries = record { id = 7; value = 10 } ∷ record { id = 6; value = 0xffff_ffff } ∷ [];
+}))
 unfolding line_of prerast_form
 said-prerast = refl
 
 pub said-fragment : said (codes "fragment 1 11 22 13 5:1 4:9 7=0000000a") ≡ Some (fragment_line (record {
-      retain = true; module_number = 11; layout_number = 22; view_mask = 13;
-      depth = Some (record { compare = 5; write = true });
-      multisample = Some (record { samples = 4; mask = 9 });
-      entries = record { id = 7; value = 10 } ∷ [];
-    }))
+  retain = true;
+  module_number = 11;
+  layout_number = 22;
+  view_mask = 13;
+  depth = Some (record { compare = 5; write = true });
+  multisample = Some (record { samples = 4; mask = 9 });
+  entries = record { id = 7; value = 10 } ∷ [];
+}))
 unfolding line_of fragment_form
 said-fragment = refl
 
 pub said-output : said (codes "output 0 13 2:1 15 s3:5 - u1:1 -") ≡ Some (output_line (record {
-      retain = false; view_mask = 13; multisample = record { samples = 2; mask = 1 }; logic = Some 15;
-      attachments =
-        Some (record { format = 7; write_mask = 5 }) ∷ None ∷ Some (record { format = 1; write_mask = 1 }) ∷ None ∷ None ∷ None ∷ None ∷ None ∷ [];
-    }))
+  retain = false;
+  view_mask = 13;
+  multisample = record { samples = 2; mask = 1 };
+  logic = Some 15;
+  attachments =
+      Some (record { format = 7; write_mask = 5 }) ∷ None ∷ Some (record { format = 1; write_mask = 1 }) ∷ None ∷ None ∷ None ∷ None ∷ None ∷ [];
+}))
 unfolding line_of output_form
 said-output = refl
 
