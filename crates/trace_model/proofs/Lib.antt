@@ -1,4 +1,5 @@
 pub mod FieldNumbers
+pub mod FieldRanges
 pub mod JudgedReadings
 pub mod Meanings
 pub mod ReadingLaws
