@@ -1,11 +1,11 @@
 -- What fields say is in its range.
 use Rattle.std.proofs.Common.{◌≡◌, ℕ, suc, ◌+◌, ◌-◌, ◌*◌, ◌^◌, ◌<◌, ◌≤◌, ◌==◌, Bool, true, false, cond, ◌&&◌, ◌||◌, List, [], ◌∷◌, Option, None, Some, ◌⊎◌, inl, inr, length, refl, ap, subst, sym, ◌∙◌, arith}
-use Rattle.std.specs.Prelude.{⊤, nat_le, bytes_eq}
+use Rattle.std.specs.Prelude.{⊤, nat_le}
 use Rattle.std.proofs.Math.Nat.{mul_assoc, mul_left_comm, mul_comm, pow-suc}
 use Rattle.std.proofs.lemmas.Bool.Decides.{nat_tests}
 use Rattle.state_model.specs.declared.vulkan.TheConstants.{SAMPLE_COUNT_1, SAMPLE_COUNT_2, SAMPLE_COUNT_4}
 use Rattle.trace_model.specs.Text.{◌>>=◌, hex_value, hex_onto, word_value, decimal_value}
-use Rattle.trace_model.specs.Fields.{each, exactly, at_most, number_value, range_value, below, optional, samples_value, mask_value}
+use Rattle.trace_model.specs.Fields.{each, number_value, range_value, below, samples_value}
 use Rattle.trace_model.proofs.FieldNumbers.{decimal-of_number}
 
 -- what the second step's answer has, where both steps have one
