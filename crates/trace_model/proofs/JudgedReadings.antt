@@ -1,6 +1,6 @@
 -- What bytes are read as depends on what is said of the words of their `code` lines alone.
-use Rattle.std.proofs.Common.{◌≡◌, ℕ, ◌+◌, Bool, cond, List, [], ◌∷◌, Option, None, Some, Result, Ok, Err, length, refl, ap, ◌∙◌}
-use Rattle.std.specs.Prelude.{⊤, nat_lt, ◌==◌}
+use Rattle.std.proofs.Common.{◌≡◌, ℕ, ◌+◌, cond, List, [], ◌∷◌, Option, None, Some, Result, Ok, Err, length, refl, ap, ◌∙◌}
+use Rattle.std.specs.Prelude.{⊤, nat_lt}
 use Rattle.limits.specs.declared.TheConstants.{TRACE_BYTES}
 use Rattle.trace_model.specs.declared.line_fault.TraceFault.{TraceFault}
 use Rattle.trace_model.specs.declared.line_fault.Cause.{Cause}

@@ -1,4 +1,7 @@
+pub mod FieldNumbers
+pub mod FieldRanges
 pub mod JudgedReadings
+pub mod LawfulLines
 pub mod Meanings
 pub mod ReadingLaws
 pub mod Samples

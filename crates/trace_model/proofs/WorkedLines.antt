@@ -1,6 +1,6 @@
 -- Lines of each form, at both ends of its ranges, and lines that have no form, by computing.
-use Rattle.std.proofs.Common.{◌≡◌, ℕ, Bool, true, not, List, [], ◌∷◌, refl}
-use Rattle.std.specs.Prelude.{codes, is_some}
+use Rattle.std.proofs.Common.{◌≡◌, ℕ, Bool, true, false, not, List, [], ◌∷◌, refl}
+use Rattle.std.specs.Prelude.{codes, is_some, replicate, Option, None, Some}
 use Rattle.std.specs.List.{list_all, list_any}
 use Rattle.trace_model.specs.declared.whole.Version.{Version}
 use Rattle.trace_model.specs.declared.whole.Version.TheVariants.{First, Second}
@@ -8,6 +8,9 @@ use Rattle.trace_model.specs.LibraryLines.{fragment_form, output_form, prerast_f
 use Rattle.trace_model.specs.LineForms.{line_of}
 use Rattle.trace_model.specs.RecorderLines.{bind_form, draw_form, push_form, scissor_form, ubuf_form, vbuf_form}
 use Rattle.trace_model.specs.SetupLines.{code_form, data_form, layout_form, pipe_form, target_form}
+use Rattle.state_model.specs.declared.parts.Topology.TheVariants.{Triangles}
+use Rattle.trace_model.specs.declared.whole.Step.TheVariants.{Push, Vbuf, Ubuf, Scissor, Bind, Draw}
+use Rattle.trace_model.specs.Lines.{Line, data_line, layout_line, vertex_line, prerast_line, fragment_line, output_line, pipe_line, target_line, step_line}
 
 -- each of these lines has a form of the version, and none of these has
 abbrev have_forms : Version → List (List ℕ) → Bool
@@ -297,3 +300,95 @@ pub no_wide-lines : have_no_form Second (codes "output 0 0 1:1 - - - - -"
     ∷ codes "prerast 0 0 0 0 0 0 cw 0=00000000 0=00000000 0=00000000 0=00000000 0=00000000 0=00000000 0=00000000 0=00000000 0=00000000 0=00000000 0=00000000 0=00000000 0=00000000 0=00000000 0=00000000 0=00000000 0=00000000" ∷ []) ≡ true
 unfolding line_of output_form bind_form fragment_form prerast_form layout_form
 no_wide-lines = refl
+
+-- ---- what a line says
+
+abbrev said : List ℕ → Option Line
+said text = line_of First text
+
+pub said-data : said (codes "data 00000000 89abcdef") ≡ Some (data_line (0 ∷ 0x89ab_cdef ∷ []))
+unfolding line_of data_form
+said-data = refl
+
+pub said-layout : said (codes "layout 1 32 - 255 0 5") ≡ Some (layout_line (record { independent = true; push_words = 32; sets = None ∷ Some 255 ∷ Some 0 ∷ Some 5 ∷ [] }))
+unfolding line_of layout_form
+said-layout = refl
+
+pub said-vertex : said (codes "vertex 1 triangles v:3 i:1024 - - 7:1:s3:1023 2:0:u4:5") ≡ Some (vertex_line (record {
+  retain = true;
+  topology = Triangles;
+  bindings = Some (record { stride = 3; per_instance = false }) ∷ Some (record { stride = 1024; per_instance = true }) ∷ None ∷ None ∷ [];
+  attributes =
+      record { location = 7; attribute = record { binding = 1; comps = 3; signed = true; offset = 1023 } }
+      ∷ record { location = 2; attribute = record { binding = 0; comps = 4; signed = false; offset = 5 } } ∷ [];
+}))
+unfolding line_of vertex_form
+said-vertex = refl
+
+pub said-prerast : said (codes "prerast 0 11 22 13 1 2 ccw 7=0000000a 6=ffffffff") ≡ Some (prerast_line (record {
+  retain = false;
+  module_number = 11;
+  layout_number = 22;
+  view_mask = 13;
+  discard = true;
+  cull = 2;
+  ccw = true;
+  entries = record { id = 7; value = 10 } ∷ record { id = 6; value = 0xffff_ffff } ∷ [];
+}))
+unfolding line_of prerast_form
+said-prerast = refl
+
+pub said-fragment : said (codes "fragment 1 11 22 13 5:1 4:9 7=0000000a") ≡ Some (fragment_line (record {
+  retain = true;
+  module_number = 11;
+  layout_number = 22;
+  view_mask = 13;
+  depth = Some (record { compare = 5; write = true });
+  multisample = Some (record { samples = 4; mask = 9 });
+  entries = record { id = 7; value = 10 } ∷ [];
+}))
+unfolding line_of fragment_form
+said-fragment = refl
+
+pub said-output : said (codes "output 0 13 2:1 15 s3:5 - u1:1 -") ≡ Some (output_line (record {
+  retain = false;
+  view_mask = 13;
+  multisample = record { samples = 2; mask = 1 };
+  logic = Some 15;
+  attachments =
+      Some (record { format = 7; write_mask = 5 }) ∷ None ∷ Some (record { format = 1; write_mask = 1 }) ∷ None ∷ None ∷ None ∷ None ∷ None ∷ [];
+}))
+unfolding line_of output_form
+said-output = refl
+
+pub said-pipe : said (codes "pipe 3 1 2") ≡ Some (pipe_line (3 ∷ 1 ∷ 2 ∷ []))
+unfolding line_of pipe_form
+said-pipe = refl
+
+pub said-target : said (codes "target 2 s2 3 1 2 4 00000007") ≡ Some (target_line 2 (record { format = 6; width = 3; height = 1; layers = 2; samples = 4; words = replicate 48 7 }))
+unfolding line_of target_form
+said-target = refl
+
+pub said-push : said (codes "push 1 30 00000005 00000006") ≡ Some (step_line 1 (Push 30 (5 ∷ 6 ∷ [])))
+unfolding line_of push_form
+said-push = refl
+
+pub said-vbuf : said (codes "vbuf 1 2 3") ≡ Some (step_line 1 (Vbuf 2 (Some 3)))
+unfolding line_of vbuf_form
+said-vbuf = refl
+
+pub said-ubuf : said (codes "ubuf 1 2 7 -") ≡ Some (step_line 1 (Ubuf 2 7 None))
+unfolding line_of ubuf_form
+said-ubuf = refl
+
+pub said-scissor : said (codes "scissor 3 1 2 255 254") ≡ Some (step_line 3 (Scissor (1 ∷ 2 ∷ 255 ∷ 254 ∷ [])))
+unfolding line_of scissor_form
+said-scissor = refl
+
+pub said-bind : said (codes "bind 2 - 5 6 - 7") ≡ Some (step_line 2 (Bind (None ∷ Some 5 ∷ Some 6 ∷ None ∷ None ∷ None ∷ None ∷ None ∷ []) (Some 7)))
+unfolding line_of bind_form
+said-bind = refl
+
+pub said-draw : said (codes "draw 2 5 6 7 8 9") ≡ Some (step_line 2 (Draw 5 (record { first_vertex = 6; vertices = 7; first_instance = 8; instances = 9 })))
+unfolding line_of draw_form
+said-draw = refl

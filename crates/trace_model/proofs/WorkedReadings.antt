@@ -1,22 +1,16 @@
 -- One worked text with the relation of valid modules: its trace, and what is due to it. And one with a faulty module.
-use Rattle.std.proofs.Common.{◌≡◌, ℕ, true, List, [], ◌∷◌, take, refl, sym, ◌∙◌}
-use Rattle.std.specs.Prelude.{codes, IsOk, Option, None, Some, Result, Ok, Err}
-use Rattle.std.specs.Result.{result_ok}
-use Rattle.std.specs.Option.{option_map}
+use Rattle.std.proofs.Common.{ℕ, List, [], ◌∷◌, take, refl}
+use Rattle.std.specs.Prelude.{codes, None, Ok}
 use Rattle.std.proofs.lemmas.List.Sums.{AllPass-from_list_all}
 use Rattle.spirv_model.specs.declared.module.Inst.{Inst}
 use Rattle.spirv_model.specs.declared.module.Words.{Words}
 use Rattle.spirv_model.proofs.ReadModules.{read_writable}
-use Rattle.spirv_model.specs.declared.module.WordsFault.TheVariants as words
 use Rattle.body_model.specs.declared.scope.End.TheVariants.{Return}
 use Rattle.body_model.specs.Classes.{is_module_level}
 use Rattle.body_model.specs.Grammar.{ends, Derives}
 use Rattle.body_model.proofs.SampleModules.{v1, f1, v1_words, f1_words, v1-is_read, f1-is_read}
-use Rattle.check_model.specs.declared.fault.CheckFault.TheVariants as fault
-use Rattle.check_model.specs.Validity.{IsValid, of_words}
-use Rattle.trace_model.specs.declared.line_fault.Cause.TheVariants.{BadModule}
-use Rattle.trace_model.specs.declared.whole.Trace.{Trace}
-use Rattle.trace_model.specs.Reading.{fault_at, IsReading}
+use Rattle.check_model.specs.Validity.{IsValid}
+use Rattle.trace_model.specs.Reading.{IsReading}
 use Rattle.trace_model.proofs.ReadingLaws.{verdict_of, is_verdict_of, is-reading}
 use Rattle.trace_model.proofs.JudgedReadings.{same_reading}
 use Rattle.body_model.specs.Blocks.{block_end, last_part}
@@ -26,7 +20,7 @@ use Rattle.body_model.specs.Targets.{targets_by}
 use Rattle.check_model.specs.Branches.{block_end_of, blocks_of, predecessors}
 use Rattle.check_model.specs.CompositeOperands.{composite_operands_fit}
 use Rattle.check_model.specs.EntryPoints.{bad_entry_count}
-use Rattle.check_model.specs.Interfaces.{inputs_of, location_twice, not_flat, outputs_of, stage_of}
+use Rattle.check_model.specs.Interfaces.{location_twice, not_flat}
 use Rattle.check_model.specs.Intervals.{is_visible}
 use Rattle.check_model.specs.MemoryOperands.{memory_operands_fit}
 use Rattle.check_model.specs.OperandTypes.{operands_fit}
@@ -37,18 +31,14 @@ use Rattle.check_model.specs.Validity.{has_bad_operands, has_wrong_storage, list
 use Rattle.check_model.specs.Visibility.{names_predecessors, not_visible, used_ids, uses_at}
 use Rattle.spirv_model.specs.Module.{list_of_cut}
 use Rattle.spirv_model.specs.Operands.{class_of, entry_of, ids, kinds, result}
-use Rattle.stage_model.specs.Program.{block_offsets, first_label_place, held_layout, layouts_by, program_of}
 use Rattle.trace_model.proofs.WorkedText.{f1_line, judged_by_words, text_of, v1_line}
 use Rattle.trace_model.specs.LibraryLines.{fragment_form, output_form, prerast_form, vertex_form}
 use Rattle.trace_model.specs.LineForms.{line_of, version_of}
-use Rattle.trace_model.specs.LinesBefore.{after_line}
-use Rattle.trace_model.specs.ObjectCauses.{binds_foreign, is_too_many, is_unknown}
-use Rattle.trace_model.specs.PartCauses.{is_bad_part}
-use Rattle.trace_model.specs.Reading.{cause_of, reading}
-use Rattle.trace_model.specs.RecorderLines.{bind_form, draw_form, push_form, scissor_form, ubuf_form, vbuf_form}
-use Rattle.trace_model.specs.SetupLines.{code_form, data_form, layout_form, pipe_form, target_form}
+use Rattle.trace_model.specs.Reading.{reading}
+use Rattle.trace_model.specs.RecorderLines.{bind_form, draw_form}
+use Rattle.trace_model.specs.SetupLines.{code_form, layout_form, pipe_form, target_form}
 use Rattle.valid_model.specs.Constants.{constant_fits}
-use Rattle.valid_model.specs.DecorationWords.{decoration_of, offset_of}
+use Rattle.valid_model.specs.DecorationWords.{decoration_of}
 use Rattle.valid_model.specs.Decorations.{bad_decorate, bad_decoration, bad_member_decorate, breaks_decorations}
 use Rattle.valid_model.specs.Definitions.{definition, id_out_of_bound, id_twice}
 use Rattle.valid_model.specs.EarlierFacts.{before_of}

@@ -104,13 +104,24 @@ prerast_form version (retain ∷ shader ∷ layout ∷ views ∷ discard ∷ cul
     range_value 0 CULL_MODE_FRONT_AND_BACK cull >>= λ cull.
     word_choice (codes "cw") (codes "ccw") front >>= λ ccw.
     entries_value version entries >>= λ entries.
-    Some (prerast_line (record { retain = retain; module_number = shader; layout_number = layout; view_mask = views; discard = discard; cull = cull; ccw = ccw; entries = entries }))
+    Some (prerast_line (record {
+      retain = retain;
+      module_number = shader;
+      layout_number = layout;
+      view_mask = views;
+      discard = discard;
+      cull = cull;
+      ccw = ccw;
+      entries = entries;
+    }))
 prerast_form version fields = None
 
 -- `compare:write`
 abbrev pub depth_parts : List (List ℕ) → Option Depth
 depth_parts (compare ∷ write ∷ []) =
-    range_value 0 COMPARE_OP_ALWAYS compare >>= λ compare. flag_value write >>= λ write. Some (record { compare = compare; write = write })
+    range_value 0 COMPARE_OP_ALWAYS compare >>= λ compare.
+    flag_value write >>= λ write.
+    Some (record { compare = compare; write = write })
 depth_parts parts = None
 
 abbrev pub depth_value : List ℕ → Option Depth
@@ -126,7 +137,15 @@ fragment_form version (retain ∷ shader ∷ layout ∷ views ∷ depth ∷ mult
     optional depth_value depth >>= λ depth.
     optional multisample_value multisample >>= λ multisample.
     entries_value version entries >>= λ entries.
-    Some (fragment_line (record { retain = retain; module_number = shader; layout_number = layout; view_mask = views; depth = depth; multisample = multisample; entries = entries }))
+    Some (fragment_line (record {
+      retain = retain;
+      module_number = shader;
+      layout_number = layout;
+      view_mask = views;
+      depth = depth;
+      multisample = multisample;
+      entries = entries;
+    }))
 fragment_form version fields = None
 
 -- ---- output
@@ -150,5 +169,11 @@ output_form version (retain ∷ views ∷ multisample ∷ logic ∷ attachments)
     multisample_value multisample >>= λ multisample.
     optional (range_value 0 LOGIC_OP_SET) logic >>= λ logic.
     exactly (attachment_count version) (optional attachment_value) attachments >>= λ attachments.
-    Some (output_line (record { retain = retain; view_mask = views; multisample = multisample; logic = logic; attachments = filled_up ATTACHMENTS attachments }))
+    Some (output_line (record {
+      retain = retain;
+      view_mask = views;
+      multisample = multisample;
+      logic = logic;
+      attachments = filled_up ATTACHMENTS attachments;
+    }))
 output_form version fields = None

@@ -33,7 +33,8 @@ nothing_before = record {
 
 -- the layout with a number; that there is one is asked before
 abbrev pub layout_at : Before → ℕ → Layout
-layout_at before number = slice_index_or before.layouts number (record { independent = false; push_words = 0; sets = replicate DESCRIPTOR_SETS None })
+layout_at before number =
+    slice_index_or before.layouts number (record { independent = false; push_words = 0; sets = replicate DESCRIPTOR_SETS None })
 
 -- by location
 abbrev pub by_location : List LocatedAttribute → List (Option Attribute)

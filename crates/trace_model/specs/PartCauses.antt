@@ -50,7 +50,8 @@ lacks_uniform insts layout inst = is_variable_of storage_class.UNIFORM inst && l
 abbrev pub exceeds_push : List Inst → Layout → Inst → Bool
 exceeds_push insts layout inst =
     is_variable_of storage_class.PUSH_CONSTANT inst
-    && list_any (λ offset. nat_lt (4 * layout.push_words) (offset + 4)) (block_offsets (program_of insts) (held_type (program_of insts) (word_at 1 inst)))
+    && list_any (λ offset. nat_lt (4 * layout.push_words) (offset + 4))
+    (block_offsets (program_of insts) (held_type (program_of insts) (word_at 1 inst)))
 
 abbrev pub exceeds_layout : List Inst → Layout → Bool
 exceeds_layout insts layout = list_any (lacks_uniform insts layout) insts || list_any (exceeds_push insts layout) insts
@@ -65,7 +66,8 @@ is_bad_shader stage read layout entries =
 -- the same by the module's number and the layout's; that there is such a module is asked before
 abbrev pub is_bad_numbered : Stage → Before → (module_number layout_number : ℕ) → List Entry → Bool
 is_bad_numbered stage before module_number layout_number entries =
-    option_map_or (λ read. is_bad_shader stage read (layout_at before layout_number) entries) (slice_get before.trace.modules module_number) false
+    option_map_or (λ read. is_bad_shader stage read (layout_at before layout_number) entries)
+    (slice_get before.trace.modules module_number) false
 
 unfoldable pub is_bad_part : Before → Line → Bool
 is_bad_part before (vertex_line line) = is_bad_vertex line

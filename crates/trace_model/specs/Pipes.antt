@@ -31,12 +31,20 @@ output_in other = None
 -- with the interface of its module
 abbrev pub prerast_in : Trace → Library → Option PrerastLibrary
 prerast_in trace (library.Prerast part) =
-    Some (record { part = part; inputs = inputs_of (module_insts trace part.«module»); outputs = outputs_of (module_insts trace part.«module») })
+    Some (record {
+      part = part;
+      inputs = inputs_of (module_insts trace part.«module»);
+      outputs = outputs_of (module_insts trace part.«module»);
+    })
 prerast_in trace other = None
 
 abbrev pub fragment_in : Trace → Library → Option FragmentLibrary
 fragment_in trace (library.Fragment part) =
-    Some (record { part = part; inputs = inputs_of (module_insts trace part.«module»); outputs = outputs_of (module_insts trace part.«module») })
+    Some (record {
+      part = part;
+      inputs = inputs_of (module_insts trace part.«module»);
+      outputs = outputs_of (module_insts trace part.«module»);
+    })
 fragment_in trace other = None
 
 abbrev pub libraries_by_subset : Trace → List Library → Libraries

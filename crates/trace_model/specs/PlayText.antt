@@ -101,7 +101,8 @@ link_text (Some rule) = rule_text rule
 -- a pipe as it is linked fast, and as it is linked optimised
 abbrev pub pipe_text : Trace → ℕ → List ℕ
 pipe_text trace pipe = line_text
-    (codes "pipe" ∷ decimal pipe ∷ link_text (failed_rule (pipe_libraries trace pipe) false) ∷ link_text (failed_rule (pipe_libraries trace pipe) true) ∷ [])
+    (codes "pipe" ∷ decimal pipe ∷ link_text (failed_rule (pipe_libraries trace pipe) false)
+    ∷ link_text (failed_rule (pipe_libraries trace pipe) true) ∷ [])
 
 unfoldable pub links_text : Trace → List ℕ
 links_text trace = flat_map (pipe_text trace) (range_with_len 0 (length trace.pipes))

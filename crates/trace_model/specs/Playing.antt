@@ -42,7 +42,7 @@ after_step dynamic (Bind colour depth) = record dynamic { colour = colour; depth
 after_step dynamic (Draw pipe call) = dynamic
 
 -- a draw, with what its recorder draws with at it
-pub record Drawn : Type 0 where
+pub record RecordedDraw : Type 0 where
   pub recorder : ℕ
   pub pipe : ℕ
   pub dynamic : Dynamic
@@ -52,7 +52,7 @@ abbrev pub dynamic_at : List Dynamic → ℕ → Dynamic
 dynamic_at dynamics recorder = slice_index_or dynamics recorder first_dynamic
 
 -- the draws of these lines, where the recorders draw with these
-abbrev pub draws_from : List Dynamic → List (ℕ × Step) → List Drawn
+abbrev pub draws_from : List Dynamic → List (ℕ × Step) → List RecordedDraw
 draws_from dynamics [] = []
 draws_from dynamics ((recorder, Draw pipe call) ∷ steps) =
     record { recorder = recorder; pipe = pipe; dynamic = dynamic_at dynamics recorder; call = call } ∷ draws_from dynamics steps
@@ -60,7 +60,7 @@ draws_from dynamics ((recorder, step) ∷ steps) =
     draws_from (slice_set dynamics recorder (after_step (dynamic_at dynamics recorder) step)) steps
 
 -- the draws of a trace in their order; a draw's number is its place
-unfoldable pub draws_of : Trace → List Drawn
+unfoldable pub draws_of : Trace → List RecordedDraw
 draws_of trace = draws_from (replicate RECORDERS first_dynamic) trace.steps
 
 -- ---- targets
@@ -69,12 +69,12 @@ abbrev pub first_targets : Trace → Targets
 first_targets trace = record { list = map (λ t. t.1) trace.targets }
 
 -- after a draw with this state and the modules as the trace gives them
-unfoldable pub after_linked : Trace → Targets → Drawn → State → Targets
+unfoldable pub after_linked : Trace → Targets → RecordedDraw → State → Targets
 after_linked trace targets drawn state =
     image (vertex_insts trace state) (fragment_insts trace state) state drawn.dynamic drawn.call trace.buffers targets
 
 -- after a draw: a refused one leaves them as they are
-unfoldable pub after_draw : Trace → Targets → Drawn → Targets
+unfoldable pub after_draw : Trace → Targets → RecordedDraw → Targets
 after_draw trace targets drawn = option_map_or (after_linked trace targets drawn) (pipe_state trace drawn.pipe) targets
 
 -- after all draws
@@ -87,7 +87,7 @@ final_targets trace = fold (after_draw trace) (first_targets trace) (draws_of tr
 unfoldable pub pipe_rule : Trace → ℕ → Option Rule
 pipe_rule trace pipe = failed_rule (pipe_libraries trace pipe) false
 
-abbrev pub refusal : Trace → (ℕ × Drawn) → Option (ℕ × Rule)
+abbrev pub refusal : Trace → (ℕ × RecordedDraw) → Option (ℕ × Rule)
 refusal trace (number, drawn) = option_map (λ rule. (number, rule)) (pipe_rule trace drawn.pipe)
 
 -- the numbers of the refused draws, each with its rule

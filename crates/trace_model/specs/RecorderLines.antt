@@ -55,7 +55,9 @@ unfoldable pub bind_form : Version → List (List ℕ) → Option Line
 bind_form version (recorder ∷ targets) =
     below RECORDERS recorder >>= λ recorder.
     exactly (attachment_count version + 1) (optional number_value) targets >>= λ targets.
-    Some (step_line recorder (Bind (filled_up ATTACHMENTS (take (attachment_count version) targets)) (present_at targets (attachment_count version))))
+    Some (step_line recorder (Bind
+    (filled_up ATTACHMENTS (take (attachment_count version) targets))
+    (present_at targets (attachment_count version))))
 bind_form version fields = None
 
 -- `draw r p fv nv fi ni`: a pipe, and first vertex, vertices, first instance, instances
@@ -68,6 +70,11 @@ draw_form (recorder ∷ pipe ∷ first_vertex ∷ vertices ∷ first_instance �
     below (2 ^ 32) first_instance >>= λ first_instance.
     below (2 ^ 32) instances >>= λ instances.
     if nat_le (vertices * instances) DRAW_VERTICES
-    then Some (step_line recorder (Draw pipe (record { first_vertex = first_vertex; vertices = vertices; first_instance = first_instance; instances = instances })))
+    then Some (step_line recorder (Draw pipe (record {
+      first_vertex = first_vertex;
+      vertices = vertices;
+      first_instance = first_instance;
+      instances = instances;
+    })))
     else None
 draw_form fields = None

@@ -44,5 +44,12 @@ target_form (recorder ∷ format ∷ width ∷ height ∷ layers ∷ samples ∷
     range_value 1 MAX_LAYERS layers >>= λ layers.
     samples_value samples >>= λ samples.
     word_value clear >>= λ clear.
-    Some (target_line recorder (cleared (record { format = format; width = width; height = height; layers = layers; samples = samples; words = [] }) clear))
+    Some (target_line recorder (cleared (record {
+      format = format;
+      width = width;
+      height = height;
+      layers = layers;
+      samples = samples;
+      words = [];
+    }) clear))
 target_form fields = None
