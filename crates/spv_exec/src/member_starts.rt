@@ -15,16 +15,16 @@ pub struct MemberStarts {
 
 impl MemberStarts {
     /// Those of a module.
-    pub fn new(alloc: Global, module: &Module) -> Result<MemberStarts, AllocError>
-        ensures { IfOk result (λ made. AreMemberStarts (program_of module.now.insts) made.firsts.items made.starts.items) }
+    pub fn new(alloc: Global, of: &Module) -> Result<MemberStarts, AllocError>
+        ensures { IfOk result (λ made. AreMemberStarts (program_of of.now.insts) made.firsts.items made.starts.items) }
     {
-        let insts = module.insts();
+        let insts = of.insts();
         let mut firsts = Vec::with_capacity(alloc, insts.len())?;
         let mut starts = Vec::new(alloc);
         for inst in insts {
             firsts.push(starts.len() as u32)?;
             if inst.op == op::TYPE_STRUCT {
-                push_starts(module, inst.words_from(1), &mut starts)?;
+                push_starts(of, inst.words_from(1), &mut starts)?;
             }
         }
         Ok(MemberStarts { firsts, starts })
@@ -40,14 +40,14 @@ impl MemberStarts {
 }
 
 /// Appends where these members begin, one behind another.
-fn push_starts(module: &Module, members: &[u32], starts: &mut Vec<u32>) -> Result<(), AllocError>
+fn push_starts(of: &Module, members: &[u32], starts: &mut Vec<u32>) -> Result<(), AllocError>
     requires { length members.now ≤ 2 ^ 19 }
-    ensures { OnOk result (AppendsStarts (program_of module.now.insts) members.now starts.old.items starts.new.items) }
+    ensures { OnOk result (AppendsStarts (program_of of.now.insts) members.now starts.old.items starts.new.items) }
 {
     let mut start = 0;
     for member in members {
         starts.push(start)?;
-        start += module.ids().size(*member);
+        start += of.ids().size(*member);
     }
     Ok(())
 }
