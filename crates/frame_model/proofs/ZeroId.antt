@@ -104,6 +104,10 @@ gives_there (inst ∷ insts) id place is = by_first inst insts id place (gives i
     by_first inst insts id place false None here known is go = cc
     by_first inst insts id place false (Some before) here known is go = subst (λ (n : ℕ). gives id (inst_at (inst ∷ insts) n) ≡ true) (same_id (suc before) place is) (go before known)
 
+-- an id is the result of the instruction that defines it
+pub definition_result : (insts : List Inst) (id place : ℕ) → definition insts id ≡ Some place → result (inst_at insts place) ≡ Some id
+definition_result insts id place is = gave id (result (inst_at insts place)) (gives_there insts id place is)
+
 never : (id : ℕ) (b : Bool) → id ≡ 0 → (nat_lt 0 id && b) ≡ true → ⊥
 never id b is above = let e : nat_lt 0 id ≡ true = first_of_both (nat_lt 0 id) b above in let f : nat_lt 0 id ≡ false = ap (nat_lt 0) is in cc
 
