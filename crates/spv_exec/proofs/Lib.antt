@@ -3,5 +3,6 @@ pub mod BlockSteps
 pub mod CompositeWords
 pub mod Definitions
 pub mod Filled
+pub mod PartAnswers
 pub mod PlacesTo
 pub mod StartsTo
