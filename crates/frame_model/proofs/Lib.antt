@@ -1,2 +1,3 @@
-pub mod WrittenWords
+pub mod FrameSizes
 pub mod FrameWrites
+pub mod WrittenWords
