@@ -1,14 +1,12 @@
 -- What a frame shows of an operand, and what it shows once a result is written into it.
-use Rattle.std.proofs.Common.{◌≡◌, ℕ, zero, suc, ◌+◌, ◌-◌, ◌<◌, ◌≤◌, ◌==◌, Bool, true, false, if◌then◌else◌, List, [], ◌∷◌, length, take, refl, ap, sym, ◌∙◌, subst, arith, inl, inr, ◌⊎◌, Option, None, Some}
-use Rattle.std.specs.Option.{option_map}
+use Rattle.std.proofs.Common.{◌≡◌, ℕ, zero, suc, ◌+◌, ◌-◌, ◌<◌, ◌≤◌, ◌==◌, Bool, true, false, if◌then◌else◌, List, length, take, refl, ap, sym, ◌∙◌, subst, arith, inl, inr, Option, None, Some}
 use Rattle.std.specs.List.{sum_by}
 use Rattle.std.proofs.lemmas.Bool.{cases_lt}
 use Rattle.std.proofs.lemmas.Bool.Decides.{nat_tests}
-use Rattle.std.proofs.lemmas.List.{take_all}
 use Rattle.std.proofs.lemmas.List.Sums.{sum_by_more}
 use Rattle.spirv_model.specs.declared.module.Inst.{Inst}
 use Rattle.spirv_model.specs.Operands.{result}
-use Rattle.valid_model.specs.Definitions.{has_result, gives, definition, inst_at, no_instruction}
+use Rattle.valid_model.specs.Definitions.{has_result, definition, inst_at, no_instruction}
 use Rattle.check_model.specs.Typing.{constant_word}
 use Rattle.stage_model.specs.Value.{Value}
 use Rattle.stage_model.specs.Program.{Program}
@@ -97,7 +95,7 @@ one_result a b None first second = cc
 one_result a b (Some own) first second = sym (same own a first) ∙ same own b second
 
 -- an instruction defines one id
-one_definition : (insts : List Inst) (a b place : ℕ) → definition insts a ≡ Some place → definition insts b ≡ Some place → a ≡ b
+pub one_definition : (insts : List Inst) (a b place : ℕ) → definition insts a ≡ Some place → definition insts b ≡ Some place → a ≡ b
 one_definition insts a b place first second = one_result a b (result (inst_at insts place)) (gives_at insts a place first) (gives_at insts b place second)
 
 same_some : {A : Type 0} (x y : A) → Some x ≡ Some y → x ≡ y

@@ -1,3 +1,5 @@
 pub mod FrameSizes
-pub mod WrittenWords
 pub mod FrameWrites
+pub mod GivenResults
+pub mod MemoryWrites
+pub mod WrittenWords
