@@ -3,13 +3,19 @@
 
 mod accesses;
 mod block;
+mod branches;
 mod composites;
 mod constants;
+mod copies;
 mod module_frame;
 mod operations;
+mod phis;
+mod results;
 mod run;
+mod stand;
 mod values;
 mod variables;
+mod walk;
 
 pub use run::run_flat;
 pub use spirv_model::{Inst, Items};
