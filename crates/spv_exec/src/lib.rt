@@ -7,9 +7,11 @@ mod branches;
 mod composites;
 mod constants;
 mod copies;
+mod member_starts;
 mod module_frame;
 mod operations;
 mod phis;
+mod places;
 mod results;
 mod run;
 mod stand;
@@ -22,5 +24,7 @@ pub use spirv_model::{Inst, Items};
 pub use stage_model::{Ended, Kind};
 pub use std::alloc::AllocError as Memory;
 
+#[cfg(test)]
+mod module_frame_tests;
 #[cfg(test)]
 mod tests;
