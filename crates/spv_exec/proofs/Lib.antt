@@ -1,5 +1,6 @@
 pub mod BlockRuns
 pub mod BlockSteps
+pub mod BranchTargets
 pub mod CompositeWords
 pub mod Definitions
 pub mod Filled
