@@ -6,3 +6,4 @@ pub mod Definitions
 pub mod Filled
 pub mod PhiWords
 pub mod ResultOpcodes
+pub mod StandJumps
