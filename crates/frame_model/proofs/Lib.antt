@@ -1,8 +1,11 @@
+pub mod DeclaredStructs
 pub mod FrameLimits
 pub mod FrameSizes
 pub mod FrameWrites
 pub mod GivenResults
 pub mod KnownSizes
 pub mod MemoryWrites
+pub mod PartPlaces
 pub mod ResultWords
 pub mod WrittenWords
+pub mod ZeroId

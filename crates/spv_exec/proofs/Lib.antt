@@ -5,5 +5,7 @@ pub mod CompositeWords
 pub mod Definitions
 pub mod Filled
 pub mod PhiWords
+pub mod PlacesTo
 pub mod ResultOpcodes
 pub mod StandJumps
+pub mod StartsTo
