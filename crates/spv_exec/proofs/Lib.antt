@@ -4,6 +4,8 @@ pub mod BranchTargets
 pub mod CompositeWords
 pub mod Definitions
 pub mod Filled
+pub mod MachineSteps
+pub mod OpcodeEffects
 pub mod PhiWords
 pub mod PlacesTo
 pub mod ResultOpcodes

@@ -75,18 +75,31 @@ fn step(of: &ModuleFrame<'_>, at: &mut Stand, frame: &mut [u32], incoming: &mut 
     match of.inst(at.place).op {
         op::LABEL => {
             enter(of, at, frame, incoming);
-            return None;
+            None
         }
-        op::BRANCH | op::BRANCH_CONDITIONAL | op::SWITCH => return branch(of, at, frame),
-        op::RETURN | op::UNREACHABLE => return Some(Kind::Done),
-        op::KILL => return Some(Kind::Killed),
-        op::PHI => run_phi(of, at.place, incoming, frame),
-        op::SELECTION_MERGE | op::LOOP_MERGE => {}
-        op::STORE => run_store(of, at.place, frame, memory),
-        _ => run_result(of, at.place, frame, memory),
+        op::PHI => {
+            run_phi(of, at.place, incoming, frame);
+            at.place += 1;
+            None
+        }
+        op::SELECTION_MERGE | op::LOOP_MERGE => {
+            at.place += 1;
+            None
+        }
+        op::STORE => {
+            run_store(of, at.place, frame, memory);
+            at.place += 1;
+            None
+        }
+        op::BRANCH | op::BRANCH_CONDITIONAL | op::SWITCH => branch(of, at, frame),
+        op::RETURN | op::UNREACHABLE => Some(Kind::Done),
+        op::KILL => Some(Kind::Killed),
+        _ => {
+            run_result(of, at.place, frame, memory);
+            at.place += 1;
+            None
+        }
     }
-    at.place += 1;
-    None
 }
 
 /// Runs an invocation to its end.

@@ -1,0 +1,3 @@
+use Rattle.spv_exec.proofs.MachineSteps.{step_by}
+use Rattle.spv_exec.proofs.OpcodeEffects.{other_effect}
+use Rattle.spv_exec.proofs.walk.step.Goals as goal
