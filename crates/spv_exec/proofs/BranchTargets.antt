@@ -141,7 +141,7 @@ goes_by program memory inst read label is =
 -- ---- what it reads
 
 -- an id with a type is defined
-defined_by : (insts : List Inst) (id type : ℕ) (found : Option ℕ) → definition insts id ≡ found → type_id (meaning insts id) ≡ Some type → (at : ℕ) × (definition insts id ≡ Some at)
+pub defined_by : (insts : List Inst) (id type : ℕ) (found : Option ℕ) → definition insts id ≡ found → type_id (meaning insts id) ≡ Some type → (at : ℕ) × (definition insts id ≡ Some at)
 defined_by insts id type (Some at) is typed = (at, is)
 defined_by insts id type None is typed = absurd (never type (sym (ap (λ (f : Option IdFacts). type_id (meaning_in f)) (unknown_without_definition insts id is)) ∙ typed))
   where

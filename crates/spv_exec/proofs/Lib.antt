@@ -9,5 +9,7 @@ pub mod OpcodeEffects
 pub mod PhiWords
 pub mod PlacesTo
 pub mod ResultOpcodes
+pub mod StandEnters
 pub mod StandJumps
+pub mod StandSteps
 pub mod StartsTo

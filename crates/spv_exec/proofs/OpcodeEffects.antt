@@ -227,9 +227,9 @@ one_gives : (found : Option Value) (effect : Effect) → option_map Gives found 
 one_gives None effect is = cc
 one_gives (Some value) effect is = (value, same_effect (Gives value) effect is)
 
-gives_by : (v h s p : Bool) → ((v ≡ true) × (h ≡ h)) → (v || (h && not s && not p)) ≡ true
+gives_by : (v h s p : Bool) → v ≡ true → (v || (h && not s && not p)) ≡ true
 gives_by true h s p is = refl
-gives_by false h s p is = let e = is.0 in cc
+gives_by false h s p is = cc
 
 gives_class : (v h s p : Bool) → h ≡ true → s ≡ false → p ≡ false → (v || (h && not s && not p)) ≡ true
 gives_class true h s p has no_store no_phi = refl
@@ -243,7 +243,7 @@ by_variable : (program : Program) (memory : Memory) (inst : Inst) (read : List V
     → (if v then Some (Gives (Pointer (slice_index inst.words 1) [])) else w) ≡ Some effect → GivesValue inst effect
 unfolding gives_result
 by_variable program memory inst read effect o true h is_v is_h w ws is =
-    record { value = Pointer (slice_index inst.words 1) []; is = same_effect (Gives (Pointer (slice_index inst.words 1) [])) effect is; gives = gives_by (inst.op == op.VARIABLE) _ _ _ (is_v, refl) }
+    record { value = Pointer (slice_index inst.words 1) []; is = same_effect (Gives (Pointer (slice_index inst.words 1) [])) effect is; gives = gives_by (inst.op == op.VARIABLE) _ _ _ is_v }
 by_variable program memory inst read effect o false true is_v is_h w ws is =
     let g = one_gives _ effect (sym (ws refl) ∙ is) in
     record { value = g.0; is = g.1; gives = gives_class (inst.op == op.VARIABLE) (has_result_class (class_of inst.op)) (inst.op == op.STORE) (inst.op == op.PHI) is_h o.no_store o.no_phi }
