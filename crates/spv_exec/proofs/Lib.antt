@@ -7,6 +7,7 @@ pub mod Filled
 pub mod MachineSteps
 pub mod OpcodeEffects
 pub mod PhiWords
+pub mod PartAnswers
 pub mod PlacesTo
 pub mod ResultOpcodes
 pub mod StandEnters
