@@ -11,6 +11,7 @@ pub mod PartAnswers
 pub mod PlacesTo
 pub mod ResultOpcodes
 pub mod StandEnters
+pub mod StandEnds
 pub mod StandJumps
 pub mod StandSteps
 pub mod StartsTo
