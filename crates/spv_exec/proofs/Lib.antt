@@ -15,3 +15,4 @@ pub mod StandEnds
 pub mod StandJumps
 pub mod StandSteps
 pub mod StartsTo
+pub mod StepArms

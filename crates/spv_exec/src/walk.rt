@@ -92,7 +92,8 @@ fn step(of: &ModuleFrame<'_>, at: &mut Stand, frame: &mut [u32], incoming: &mut 
             None
         }
         op::BRANCH | op::BRANCH_CONDITIONAL | op::SWITCH => branch(of, at, frame),
-        op::RETURN | op::UNREACHABLE => Some(Kind::Done),
+        op::RETURN => Some(Kind::Done),
+        op::UNREACHABLE => Some(Kind::Done),
         op::KILL => Some(Kind::Killed),
         _ => {
             run_result(of, at.place, frame, memory);
