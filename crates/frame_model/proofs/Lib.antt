@@ -1,3 +1,4 @@
 pub mod FrameSizes
 pub mod FrameWrites
+pub mod PartWords
 pub mod WrittenWords
