@@ -2,4 +2,5 @@ pub mod FrameSizes
 pub mod FrameWrites
 pub mod GivenResults
 pub mod MemoryWrites
+pub mod PartWords
 pub mod WrittenWords
