@@ -1,8 +1,11 @@
+pub mod FrameLimits
 pub mod FrameSizes
 pub mod FrameWrites
 pub mod GivenResults
+pub mod KnownSizes
 pub mod LayoutParts
 pub mod LoadedWords
 pub mod MemoryWrites
 pub mod PartWords
+pub mod ResultWords
 pub mod WrittenWords
