@@ -1,17 +1,17 @@
 -- The words of values that are read from words, and where truth values stand among the words of a value.
-use Rattle.std.proofs.Common.{◌≡◌, ℕ, zero, suc, ◌+◌, ◌-◌, ◌<◌, ◌≤◌, ◌==◌, Bool, true, false, not, nat_lt, if◌then◌else◌, List, [], ◌∷◌, ◌++◌, length, take, drop, get_or, replicate, refl, ap, sym, ◌∙◌, subst, arith, length-drop, inl, inr, ◌⊎◌, Option, None, Some}
+use Rattle.std.proofs.Common.{◌≡◌, ℕ, zero, suc, ◌+◌, ◌-◌, ◌<◌, ◌≤◌, ◌==◌, Bool, true, false, not, nat_lt, if◌then◌else◌, List, [], ◌∷◌, ◌++◌, length, take, drop, get_or, replicate, refl, ap, sym, ◌∙◌, subst, arith, length-drop, inl, inr, Option, None, Some}
 use Rattle.std.specs.Option.{option_map}
 use Rattle.std.proofs.Math.Seq.{take-add, drop-nil}
 use Rattle.std.proofs.lemmas.Bool.{cases_lt}
 use Rattle.std.proofs.lemmas.Bool.Decides.{nat_tests}
 use Rattle.std.proofs.lemmas.List.{get_or-drop, get_or_append_left, get_or-append_right, replicate-append-replicate, take_all}
-use Rattle.stage_model.specs.Value.{Value, Truth, Word, Composite, Pointer, Outside, Parts, NoParts, PartsOf, Layout, OneTruth, OneWord, Several, Layouts, NoLayouts, LayoutsOf, size_of, sizes_of, word_of_truth, words_with, words_of, words_of_parts, value_of, parts_of, zero_of}
+use Rattle.stage_model.specs.Value.{Value, Truth, Word, Composite, Pointer, Outside, Parts, NoParts, PartsOf, Layout, OneTruth, OneWord, Several, Layouts, NoLayouts, LayoutsOf, size_of, sizes_of, word_of_truth, words_of, words_of_parts, value_of, parts_of, zero_of}
 use Rattle.stage_model.specs.Program.{Program}
 use Rattle.typed_model.specs.Values.{layout_in, layouts_in, layouts_with, HasLayout}
 use Rattle.frame_model.specs.Frame.{in_frame}
 use Rattle.frame_model.specs.Truths.{is_truth_at, is_truth_in}
 use Rattle.frame_model.proofs.FrameSizes.{layout_size}
-use Rattle.frame_model.proofs.PartWords.{in_frame_words, Both, both_there, both_are}
+use Rattle.frame_model.proofs.PartWords.{in_frame_words, both_there, both_are}
 
 same_some : {A : Type 0} (x y : A) → Some x ≡ Some y → x ≡ y
 same_some x y is = cc
