@@ -37,7 +37,7 @@ same a b is = grind (arith, nat_tests)
 
 -- ---- a value that suits an id
 
-own_result : (id : ℕ) (found : Option ℕ) → has_result id found ≡ true → found ≡ Some id
+pub own_result : (id : ℕ) (found : Option ℕ) → has_result id found ≡ true → found ≡ Some id
 own_result id None is = cc
 own_result id (Some own) is = ap (λ (n : ℕ). Some n) (same own id is)
 

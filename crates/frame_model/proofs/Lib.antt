@@ -5,7 +5,9 @@ pub mod GivenResults
 pub mod KnownSizes
 pub mod LayoutParts
 pub mod LoadedWords
+pub mod MemoryAccesses
 pub mod MemoryWrites
 pub mod PartWords
+pub mod PointerWords
 pub mod ResultWords
 pub mod WrittenWords
