@@ -1,3 +1,4 @@
+pub mod AccessOperands
 pub mod FrameLimits
 pub mod FrameSizes
 pub mod FrameWrites
