@@ -22,22 +22,22 @@ use Rattle.check_model.specs.Validity.{IsValidList}
 use Rattle.stage_model.specs.Value.{Value, Layout, size_of, words_of}
 use Rattle.stage_model.specs.Program.{Program, program_of}
 use Rattle.stage_model.specs.Start.{Values, Memory, all_values}
-use Rattle.stage_model.specs.Effect.{Effect, Gives, read_ids, result_of, effect_of, loaded, stored, stores, one, chain_of}
+use Rattle.stage_model.specs.Effect.{Effect, Passes, Gives, Writes, read_ids, result_of, effect_of, with_words, loaded, stored}
 use Rattle.typed_model.specs.Values.{IsPointer}
 use Rattle.typed_model.specs.Types.{HasTypes, typing_in, Suits, AllSuit}
 use Rattle.typed_model.proofs.EffectsRun.{instruction}
-use Rattle.typed_model.proofs.MemoryValues.{PointerOperand, pointer_operand, pointer_value}
+use Rattle.typed_model.proofs.MemoryValues.{PointerOperand, pointer_operand, pointer_value, object_by}
 use Rattle.typed_model.proofs.PlainRuns.{at_op}
 use Rattle.typed_model.proofs.ReadValues.{typing_here}
-use Rattle.typed_model.proofs.TypeLayouts.{word_is}
+use Rattle.typed_model.proofs.TypeLayouts.{word_is, type_has_layout}
 use Rattle.typed_model.proofs.ValidModules.{valid_sound}
 use Rattle.typed_model.proofs.ValidTypes.{valid_types}
 use Rattle.frame_model.specs.Frame.{OUTSIDE, frame_words, frame_place, in_frame}
 use Rattle.frame_model.specs.Shown.{words_at, IsFrame, Shows, ShowsMemory}
-use Rattle.frame_model.specs.Written.{GivesAt, written}
+use Rattle.frame_model.specs.Written.{GivesAt, written, reads_at}
 use Rattle.frame_model.proofs.FrameWrites.{OperandWords, operand_words, frame_room}
 use Rattle.frame_model.proofs.GivenResults.{given_result}
-use Rattle.frame_model.proofs.MemoryAccesses.{Loads, load_outside, load_from, loads}
+use Rattle.frame_model.proofs.MemoryAccesses.{Loads, load_outside, load_from, loads, Stores, store_outside, store_at, stores_by}
 use Rattle.frame_model.proofs.WrittenWords.{length_words_at, words_at_index}
 
 same_some : {A : Type 0} (x y : A) → Some x ≡ Some y → x ≡ y
@@ -45,7 +45,7 @@ same_some x y is = cc
 
 -- ---- operands of this class
 
-memory_class : (class_of op.LOAD ≡ Some class.Memory) × (class_of op.STORE ≡ Some class.Memory) × (class_of op.ACCESS_CHAIN ≡ Some class.Memory)
+pub memory_class : (class_of op.LOAD ≡ Some class.Memory) × (class_of op.STORE ≡ Some class.Memory) × (class_of op.ACCESS_CHAIN ≡ Some class.Memory)
 unfolding class_of entry_of
 memory_class = (refl, refl, refl)
 
@@ -53,7 +53,7 @@ memory_class = (refl, refl, refl)
 abbrev pub FitsHere : Words → Inst → Type 0
 FitsHere words inst = memory_operands_fit (typing_here words.insts (is_vertex (facts_of words.insts))) inst ≡ true
 
-memory_fit : (words : Words) → IsValidList words → (place : ℕ) → place < length words.insts → class_of (inst_at words.insts place).op ≡ Some class.Memory → FitsHere words (inst_at words.insts place)
+pub memory_fit : (words : Words) → IsValidList words → (place : ℕ) → place < length words.insts → class_of (inst_at words.insts place).op ≡ Some class.Memory → FitsHere words (inst_at words.insts place)
 unfolding operands_fit typing_of program_of
 memory_fit words v place within is =
     sym (ap (λ (of : Option Class). operands_fit_class (typing_of words.insts) of (inst_at words.insts place)) is) ∙ (valid_sound words v).fit place within
@@ -210,3 +210,121 @@ load_copies words frame memory place value s isnt = by_case s.loads
         let e = word_of_value words.insts frame (word_at 2 (inst_at words.insts place)) at s.pointer s.stands word in
         let size = s.size in
         (omega (arith, e, fits, size), same ∙ (ap (λ (n : ℕ). words_at memory n (size_of s.layout)) (sym e) ∙ ap (words_at memory (get_or frame (frame_place (program_of words.insts) s.stands.at) 0)) (sym size)))
+
+-- ---- stores
+
+-- the operands of a store, and what it does
+pub record StoreParts (program : Program) (constant : ℕ → Option ℕ) (words : List ℕ) (read : List Value) (effect : Effect) : Type 0 where
+  pub pointer : Value
+  pub object : Value
+  pub read_is : read ≡ pointer ∷ object ∷ []
+  pub suits : Suits program constant (slice_index words 0) pointer
+  pub object_suits : Suits program constant (slice_index words 1) object
+  pub type : ℕ
+  pub operand : PointerOperand program (slice_index words 0) type
+  pub typed : type_id (program.meaning (slice_index words 1)) ≡ Some type
+  pub does : option_and_then (λ words. stored program words pointer) (words_of object) ≡ Some effect
+
+abbrev IsStore : Words → Memory → Effect → (read : List Value) → Inst → Type 0
+IsStore words held effect read inst =
+    is_some (kinds inst) ≡ true → FitsHere words inst → AllSuit (program_of words.insts) (constant_word words.insts) (read_ids inst.op 0 inst.words) read → effect_of (program_of words.insts) held inst read ≡ Some effect
+    → StoreParts (program_of words.insts) (constant_word words.insts) inst.words read effect
+
+store_parts : (words : Words) (held : Memory) (effect : Effect) (list : List ℕ) (read : List Value) → IsStore words held effect read (instruction op.STORE list)
+unfolding kinds class_of entry_of memory_operands_fit read_ids effect_of
+store_parts words held effect (pointer ∷ object ∷ []) (to ∷ new ∷ []) has fit suit is =
+    let o = object_by (program_of words.insts) (constant_word words.insts) (is_vertex (facts_of words.insts)) _ object fit in
+    record {
+      pointer = to;
+      object = new;
+      read_is = refl;
+      suits = suit.0;
+      object_suits = suit.1.0;
+      type = o.0;
+      operand = pointer_operand (program_of words.insts) (constant_word words.insts) (is_vertex (facts_of words.insts)) pointer o.0 o.1;
+      typed = o.2;
+      does = is;
+    }
+store_parts words held effect (pointer ∷ object ∷ []) [] has fit suit is = absurd suit
+store_parts words held effect (pointer ∷ object ∷ []) (to ∷ []) has fit suit is = absurd suit.1
+store_parts words held effect (pointer ∷ object ∷ []) (to ∷ new ∷ other ∷ read) has fit suit is = absurd suit.1.1
+store_parts words held effect (pointer ∷ object ∷ more ∷ list) read has fit suit is = cc
+store_parts words held effect (pointer ∷ []) read has fit suit is = cc
+store_parts words held effect [] read has fit suit is = cc
+
+-- a store reads its first two words, of which the table says that there are no more
+abbrev ReadsTwo : Inst → Type 0
+ReadsTwo inst = is_some (kinds inst) ≡ true → read_ids inst.op 0 inst.words ≡ slice_index inst.words 0 ∷ slice_index inst.words 1 ∷ []
+
+store_ids : (list : List ℕ) → ReadsTwo (instruction op.STORE list)
+unfolding kinds class_of entry_of read_ids
+store_ids (pointer ∷ object ∷ []) has = refl
+store_ids (pointer ∷ object ∷ more ∷ list) has = cc
+store_ids (pointer ∷ []) has = cc
+store_ids [] has = cc
+
+-- what the frame and the memory have for a store
+pub record StoreStands (words : Words) (frame memory : List ℕ) (held : Memory) (place : ℕ) (effect : Effect) : Type 0 where
+  pub pointer : Value
+  pub object : Value
+  pub stands : StandsFor words.insts frame (word_at 0 (inst_at words.insts place)) pointer
+  pub object_stands : StandsFor words.insts frame (word_at 1 (inst_at words.insts place)) object
+  pub stores : Stores (program_of words.insts) memory held pointer object effect
+
+words_by : (program : Program) (pointer : Value) (words : Option (List ℕ)) (effect : Effect) → option_and_then (λ words. stored program words pointer) words ≡ Some effect → (new : List ℕ) × (words ≡ Some new) × (stored program new pointer ≡ Some effect)
+words_by program pointer None effect is = cc
+words_by program pointer (Some new) effect is = (new, refl, is)
+
+pub store_stands : (words : Words) → IsValidList words → (frame memory : List ℕ) (held : Memory) (place : ℕ) (effect : Effect) → place < length words.insts → (inst_at words.insts place).op == op.STORE ≡ true → IsFrame (program_of words.insts) frame
+    → (values : Values) → Shows (program_of words.insts) frame values → ShowsMemory (program_of words.insts) memory held → (read : List Value) → all_values values (reads_at (program_of words.insts) place) ≡ Some read
+    → AllSuit (program_of words.insts) (constant_word words.insts) (reads_at (program_of words.insts) place) read → effect_of (program_of words.insts) held (inst_at words.insts place) read ≡ Some effect
+    → StoreStands words frame memory held place effect
+unfolding program_of
+store_stands words v frame memory held place effect within is size values shows holds read are suit does =
+    let inst = inst_at words.insts place in
+    let program = program_of words.insts in
+    let types = valid_types words v.sound in
+    let shaped = (valid_sound words v).shaped place within in
+    let fit = memory_fit words v place within (ap class_of (op_is inst.op op.STORE is) ∙ memory_class.1) in
+    let p = at_op (IsStore words held effect read) inst op.STORE is (store_parts words held effect inst.words read) shaped fit suit does in
+    let reads : read_ids inst.op 0 inst.words ≡ slice_index inst.words 0 ∷ slice_index inst.words 1 ∷ [] = at_op ReadsTwo inst op.STORE is (store_ids inst.words) shaped in
+    let two : all_values values (slice_index inst.words 0 ∷ slice_index inst.words 1 ∷ []) ≡ Some (p.pointer ∷ p.object ∷ []) = ap (all_values values) (sym reads) ∙ (are ∙ ap (λ (l : List Value). Some l) p.read_is) in
+    let first = first_read values (slice_index inst.words 0) (slice_index inst.words 1 ∷ []) p.pointer (p.object ∷ []) two in
+    let second = first_read values (slice_index inst.words 1) [] p.object [] first.1 in
+    let points = pointer_value program p.operand.type p.operand.class p.type p.pointer p.operand.means (p.suits.of_type p.operand.type p.operand.is) in
+    let l = types.there p.type (types.pointee p.operand.type p.operand.class p.type p.operand.means) in
+    let has = type_has_layout program types p.type p.object l.0 l.1 (p.object_suits.of_type p.type p.typed) in
+    let w = words_by program p.pointer (words_of p.object) effect p.does in
+    record {
+      pointer = p.pointer;
+      object = p.object;
+      stands = stands_for words.insts frame values (slice_index inst.words 0) p.operand.type p.pointer size shows p.operand.is first.0;
+      object_stands = stands_for words.insts frame values (slice_index inst.words 1) p.type p.object size shows p.typed second.0;
+      stores = stores_by words v memory held holds p.operand.class p.type l.0 p.pointer p.object w.0 effect l.1 points has w.1 w.2;
+    }
+
+-- outside the word that the code reads for the pointer is the one that stands for it, and nothing is done
+pub store_passes : (words : Words) (frame memory : List ℕ) (held : Memory) (place : ℕ) (effect : Effect) (s : StoreStands words frame memory held place effect) → get_or frame (frame_place (program_of words.insts) s.stands.at) 0 ≡ OUTSIDE → effect ≡ Passes
+store_passes words frame memory held place effect s is = by_case s.stores
+  where
+    by_case : Stores (program_of words.insts) memory held s.pointer s.object effect → effect ≡ Passes
+    by_case (store_outside outside passes) = passes
+    by_case (store_at at variable from word few fits writes after) = let e = word_of_value words.insts frame (word_at 0 (inst_at words.insts place)) at s.pointer s.stands word in absurd (omega (arith, e, is, few))
+
+-- inside of a variable it is where the object's words are written
+pub record StoreWrites (program : Program) (memory : List ℕ) (held : Memory) (object : Value) (effect : Effect) (at : ℕ) : Type 0 where
+  pub variable : ℕ
+  pub from : ℕ
+  pub writes : effect ≡ Writes variable from (in_frame program object)
+  pub fits : at + length (in_frame program object) ≤ length memory
+  pub after : ShowsMemory program (written memory at (in_frame program object)) (with_words variable from (in_frame program object) held)
+
+pub store_writes : (words : Words) (frame memory : List ℕ) (held : Memory) (place : ℕ) (effect : Effect) (s : StoreStands words frame memory held place effect) → (get_or frame (frame_place (program_of words.insts) s.stands.at) 0 ≡ OUTSIDE → ⊥)
+    → StoreWrites (program_of words.insts) memory held s.object effect (get_or frame (frame_place (program_of words.insts) s.stands.at) 0)
+store_writes words frame memory held place effect s isnt = by_case s.stores
+  where
+    by_case : Stores (program_of words.insts) memory held s.pointer s.object effect → StoreWrites (program_of words.insts) memory held s.object effect (get_or frame (frame_place (program_of words.insts) s.stands.at) 0)
+    by_case (store_outside outside passes) = absurd (isnt (word_of_value words.insts frame (word_at 0 (inst_at words.insts place)) OUTSIDE s.pointer s.stands outside))
+    by_case (store_at at variable from word few fits writes after) =
+        let e = word_of_value words.insts frame (word_at 0 (inst_at words.insts place)) at s.pointer s.stands word in
+        subst (λ (n : ℕ). StoreWrites (program_of words.insts) memory held s.object effect n) (sym e) (record { variable = variable; from = from; writes = writes; fits = fits; after = after })
