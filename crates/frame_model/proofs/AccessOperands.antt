@@ -10,6 +10,9 @@ use Rattle.spirv_model.specs.declared.class.Class.{Class}
 use Rattle.spirv_model.specs.declared.class.Class.TheVariants as class
 use Rattle.spirv_model.specs.Operands.{word_at, entry_of, class_of, kinds}
 use Rattle.valid_model.specs.declared.meaning.IdFacts.{IdFacts}
+use Rattle.valid_model.specs.declared.meaning.Meaning.{Meaning}
+use Rattle.valid_model.specs.declared.meaning.Meaning.TheVariants.{Shape as OfShape}
+use Rattle.valid_model.specs.declared.meaning.Shape.TheVariants.{Pointer as PointerType}
 use Rattle.valid_model.specs.Definitions.{definition, inst_at}
 use Rattle.valid_model.specs.Knowledge.{meaning_in}
 use Rattle.valid_model.specs.Meanings.{meaning}
@@ -19,12 +22,13 @@ use Rattle.check_model.specs.MemoryOperands.{memory_operands_fit}
 use Rattle.check_model.specs.OperandTypes.{operands_fit, operands_fit_class}
 use Rattle.check_model.specs.Typing.{type_id, typing_of, constant_word}
 use Rattle.check_model.specs.Validity.{IsValidList}
-use Rattle.stage_model.specs.Value.{Value, Layout, size_of, words_of}
+use Rattle.stage_model.specs.Value.{Value, Pointer, Layout, size_of, words_of, part_along}
 use Rattle.stage_model.specs.Program.{Program, program_of}
 use Rattle.stage_model.specs.Start.{Values, Memory, all_values}
 use Rattle.stage_model.specs.Effect.{Effect, Passes, Gives, Writes, read_ids, result_of, effect_of, with_words, loaded, stored}
-use Rattle.typed_model.specs.Values.{IsPointer}
+use Rattle.typed_model.specs.Values.{PointsTo, IsData, IsPointer, IsOfMeaning, IsOfType}
 use Rattle.typed_model.specs.Types.{HasTypes, typing_in, Suits, AllSuit}
+use Rattle.typed_model.proofs.BlockResults.{gives_value, variable_gives}
 use Rattle.typed_model.proofs.EffectsRun.{instruction}
 use Rattle.typed_model.proofs.MemoryValues.{PointerOperand, pointer_operand, pointer_value, object_by}
 use Rattle.typed_model.proofs.PlainRuns.{at_op}
@@ -32,12 +36,14 @@ use Rattle.typed_model.proofs.ReadValues.{typing_here}
 use Rattle.typed_model.proofs.TypeLayouts.{word_is, type_has_layout}
 use Rattle.typed_model.proofs.ValidModules.{valid_sound}
 use Rattle.typed_model.proofs.ValidTypes.{valid_types}
-use Rattle.frame_model.specs.Frame.{OUTSIDE, frame_words, frame_place, in_frame}
+use Rattle.frame_model.specs.Frame.{OUTSIDE, frame_words, frame_place, memory_place, in_frame}
 use Rattle.frame_model.specs.Shown.{words_at, IsFrame, Shows, ShowsMemory}
 use Rattle.frame_model.specs.Written.{GivesAt, written, reads_at}
 use Rattle.frame_model.proofs.FrameWrites.{OperandWords, operand_words, frame_room}
 use Rattle.frame_model.proofs.GivenResults.{given_result}
 use Rattle.frame_model.proofs.MemoryAccesses.{Loads, load_outside, load_from, loads, Stores, store_outside, store_at, stores_by}
+use Rattle.frame_model.proofs.PointerWords.{pointer_lies}
+use Rattle.frame_model.proofs.ResultWords.{Gave, by_variable, by_class, gave}
 use Rattle.frame_model.proofs.WrittenWords.{length_words_at, words_at_index}
 
 same_some : {A : Type 0} (x y : A) → Some x ≡ Some y → x ≡ y
@@ -328,3 +334,52 @@ store_writes words frame memory held place effect s isnt = by_case s.stores
     by_case (store_at at variable from word few fits writes after) =
         let e = word_of_value words.insts frame (word_at 0 (inst_at words.insts place)) at s.pointer s.stands word in
         subst (λ (n : ℕ). StoreWrites (program_of words.insts) memory held s.object effect n) (sym e) (record { variable = variable; from = from; writes = writes; fits = fits; after = after })
+
+-- ---- results of one word
+
+pub one_room : (words : Words) → IsValidList words → (frame : List ℕ) (held : Memory) (place word : ℕ) (value : Value) → GivesAt (program_of words.insts) frame held place value → in_frame (program_of words.insts) value ≡ word ∷ []
+    → frame_place (program_of words.insts) place < length frame
+unfolding program_of
+one_room words v frame held place word value g is =
+    let size = (given_result words v frame held place value g).size in
+    let room = frame_room (program_of words.insts) place g.within in
+    let long = ap length is in let frame_is = g.size in
+    omega (arith, size, room, long, frame_is)
+
+-- ---- variables
+
+pointed : (program : Program) (type variable : ℕ) (m : Meaning) → IsOfMeaning program type m (Pointer variable []) → (class : ℕ) × (to : ℕ) × PointsTo program class to variable []
+pointed program type variable (OfShape (PointerType class to)) is = (class, to, is)
+pointed program type variable m is = absurd (no_data program type variable is)
+  where
+    no_data : (program : Program) (type variable : ℕ) → IsData program type (Pointer variable []) → ⊥
+    no_data program type variable is = let e = is.has in cc
+
+made_by : (program : Program) (held : Memory) (inst : Inst) (read : List Value) (value : Value) → inst.op == op.VARIABLE ≡ true → Gave program held inst read value → value ≡ Pointer (word_at 1 inst) []
+made_by program held inst read value is (by_variable at whole) = whole
+made_by program held inst read value is (by_class has isnt made) = let e = sym (ap gives_value (op_is inst.op op.VARIABLE is) ∙ variable_gives) ∙ has in cc
+
+first_or : ℕ → Option (ℕ × Layout) → ℕ
+first_or place None = place
+first_or place (Some (found, layout)) = found
+
+first_place : (whole layout : Layout) (place : ℕ) → part_along whole [] ≡ Some (place, layout) → 0 ≡ place
+unfolding first_or
+first_place whole layout place is = ap (first_or 0) is
+
+-- OpVariable gives a pointer to where its variable begins
+pub variable_word : (words : Words) → IsValidList words → (frame : List ℕ) (held : Memory) (place : ℕ) (value : Value) → GivesAt (program_of words.insts) frame held place value → (inst_at words.insts place).op == op.VARIABLE ≡ true
+    → in_frame (program_of words.insts) value ≡ memory_place (program_of words.insts) place ∷ []
+unfolding program_of
+variable_word words v frame held place value g is =
+    let inst = inst_at words.insts place in
+    let program = program_of words.insts in
+    let whole = made_by program held inst g.read value is (gave program held inst g.read value g.effect) in
+    let typed = subst (λ (x : Value). IsOfType program (word_at 0 inst) x) whole g.typed in
+    let p = pointed program (word_at 0 inst) (word_at 1 inst) (meaning words.insts (word_at 0 inst)) typed in
+    let l = pointer_lies words p.0 p.1 (word_at 1 inst) [] p.2 in
+    let same_place : l.lies.place ≡ place = same_some l.lies.place place (sym l.lies.defined ∙ (given_result words v frame held place value g).defined) in
+    let none = first_place l.whole p.2.layout l.place l.found in
+    let f = ap (memory_place program) same_place in
+    let e : memory_place program l.lies.place + l.place ≡ memory_place program place = omega (arith, none, f) in
+    ap (in_frame program) whole ∙ (l.word ∙ ap (λ (n : ℕ). n ∷ []) e)
