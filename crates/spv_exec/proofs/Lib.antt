@@ -4,3 +4,4 @@ pub mod CompositeWords
 pub mod Definitions
 pub mod Filled
 pub mod PhiWords
+pub mod StoreWords

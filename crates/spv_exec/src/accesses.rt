@@ -12,7 +12,6 @@ ghost use Rattle.spv_exec.specs.Accesses.{LoadsSome, StoresAt, StoresSome, memor
 
 use crate::copies::copy_words;
 use crate::module_frame::ModuleFrame;
-use spirv_model::op;
 
 /// The word that stands for a pointer outside of its variable.
 const OUTSIDE: u32 = 0xffff_ffff;
