@@ -117,7 +117,7 @@ pub record LoadParts (program : Program) (constant : ℕ → Option ℕ) (held :
   pub operand : PointerOperand program (slice_index words 2) (slice_index words 0)
   pub gives : option_and_then (λ layout. loaded program held layout pointer) (program.layout (slice_index words 0)) ≡ Some value
 
-some_gives : (found : Option Value) (value : Value) → option_map Gives found ≡ Some (Gives value) → found ≡ Some value
+pub some_gives : (found : Option Value) (value : Value) → option_map Gives found ≡ Some (Gives value) → found ≡ Some value
 some_gives None value is = cc
 some_gives (Some own) value is = cc
 
@@ -160,7 +160,7 @@ layout_of : (program : Program) (held : Memory) (pointer value : Value) (layout 
 layout_of program held pointer value None is = cc
 layout_of program held pointer value (Some layout) is = (layout, refl, is)
 
-op_is : (a b : ℕ) → a == b ≡ true → a ≡ b
+pub op_is : (a b : ℕ) → a == b ≡ true → a ≡ b
 op_is a b is = grind (arith, nat_tests)
 
 loaded_length : (program : Program) (memory : List ℕ) (layout : Layout) (pointer value : Value) → Loads program memory layout pointer value → length (in_frame program value) ≡ size_of layout

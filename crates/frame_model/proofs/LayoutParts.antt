@@ -15,7 +15,7 @@ second_or : Layout → Option (ℕ × Layout) → Layout
 second_or layout None = layout
 second_or layout (Some (place, found)) = found
 
-same_part : (a b : ℕ) (l m : Layout) → ◌≡◌ {A = Option (ℕ × Layout)} (Some (a, l)) (Some (b, m)) → (a ≡ b) × (l ≡ m)
+pub same_part : (a b : ℕ) (l m : Layout) → ◌≡◌ {A = Option (ℕ × Layout)} (Some (a, l)) (Some (b, m)) → (a ≡ b) × (l ≡ m)
 unfolding first_or second_or
 same_part a b l m is = (ap (first_or a) is, ap (second_or l) is)
 

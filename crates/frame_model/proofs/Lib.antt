@@ -1,4 +1,5 @@
 pub mod AccessOperands
+pub mod ChainOperands
 pub mod FrameLimits
 pub mod FrameSizes
 pub mod FrameWrites

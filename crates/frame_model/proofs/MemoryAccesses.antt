@@ -12,6 +12,7 @@ use Rattle.stage_model.specs.Program.{Program, held_layout, program_of}
 use Rattle.stage_model.specs.Start.{Memory}
 use Rattle.stage_model.specs.Effect.{Effect, Passes, Writes, words_from, with_words, place_of, loaded, stored, pointer_along, chained}
 use Rattle.typed_model.specs.Values.{HasLayout, IsPointer}
+use Rattle.frame_model.specs.Along.{word_along}
 use Rattle.frame_model.specs.Frame.{OUTSIDE, memory_place, in_frame}
 use Rattle.frame_model.specs.Shown.{words_at, ShowsMemory}
 use Rattle.frame_model.specs.Truths.{HoldsTruths, is_truth_at}
@@ -153,27 +154,22 @@ stores_by words v memory held shows class type layout (Composite parts) object n
 
 -- ---- chains
 
--- where a part begins, from here; outside without one
-abbrev pub chain_word : ℕ → Option (ℕ × Layout) → ℕ
-chain_word at None = OUTSIDE
-chain_word at (Some (place, layout)) = at + place
-
 -- what a chain from a pointer along indices gives
 pub data Chains (program : Program) (layout : Layout) (more : List ℕ) (pointer value : Value) : Type 0 where
   chain_outside : in_frame program pointer ≡ OUTSIDE ∷ [] → in_frame program value ≡ OUTSIDE ∷ [] → Chains program layout more pointer value
-  chain_at : (at : ℕ) → in_frame program pointer ≡ at ∷ [] → at + size_of layout ≤ 2 ^ 26 → in_frame program value ≡ chain_word at (part_along layout more) ∷ [] → Chains program layout more pointer value
+  chain_at : (at : ℕ) → in_frame program pointer ≡ at ∷ [] → at + size_of layout ≤ 2 ^ 26 → in_frame program value ≡ word_along at (part_along layout more) ∷ [] → Chains program layout more pointer value
 
 -- the word of a pointer along indices of a variable
 along_word : (program : Program) (variable : ℕ) (indices : List ℕ) (whole : Layout) (at : ℕ) → held_layout program variable ≡ Some whole → definition program.insts variable ≡ Some at
-    → in_frame program (pointer_along (place_of program variable indices) variable indices) ≡ chain_word (memory_place program at) (part_along whole indices) ∷ []
+    → in_frame program (pointer_along (place_of program variable indices) variable indices) ≡ word_along (memory_place program at) (part_along whole indices) ∷ []
 along_word program variable indices whole at holds defined = by_part (part_along whole indices) (found_place program variable indices whole holds)
   where
     by_part : (found : Option (ℕ × Layout)) → place_of program variable indices ≡ option_map (λ (place, layout). place) found
-        → in_frame program (pointer_along (place_of program variable indices) variable indices) ≡ chain_word (memory_place program at) found ∷ []
+        → in_frame program (pointer_along (place_of program variable indices) variable indices) ≡ word_along (memory_place program at) found ∷ []
     by_part None is = ap (λ (o : Option ℕ). in_frame program (pointer_along o variable indices)) is ∙ outside_word program
     by_part (Some (place, layout)) is = ap (λ (o : Option ℕ). in_frame program (pointer_along o variable indices)) is ∙ pointer_word program variable indices at place defined is
 
-further_word : (at place : ℕ) (found : Option (ℕ × Layout)) → chain_word at (further place found) ≡ chain_word (at + place) found
+pub further_word : (at place : ℕ) (found : Option (ℕ × Layout)) → word_along at (further place found) ≡ word_along (at + place) found
 further_word at place None = refl
 further_word at place (Some (within, layout)) = omega arith
 
@@ -186,7 +182,7 @@ chain_from words v variable indices more layout value l is =
     chain_at (memory_place program l.lies.place + l.place) l.word (omega (arith, fits, small))
     (ap (in_frame program) (sym (same_some _ value is))
     ∙ (along_word program variable (indices ++ more) l.whole l.lies.place l.holds l.lies.defined
-    ∙ ap (λ (n : ℕ). n ∷ []) (ap (chain_word (memory_place program l.lies.place)) (along_more indices more l.whole l.place layout l.found) ∙ further_word (memory_place program l.lies.place) l.place (part_along layout more))))
+    ∙ ap (λ (n : ℕ). n ∷ []) (ap (word_along (memory_place program l.lies.place)) (along_more indices more l.whole l.place layout l.found) ∙ further_word (memory_place program l.lies.place) l.place (part_along layout more))))
 
 pub chains : (words : Words) → IsValidList words → (class type : ℕ) (layout : Layout) (more : List ℕ) (pointer value : Value) → (program_of words.insts).layout type ≡ Some layout → IsPointer (program_of words.insts) class type pointer
     → chained (program_of words.insts) pointer more ≡ Some value → Chains (program_of words.insts) layout more pointer value

@@ -1,3 +1,4 @@
+pub mod Along
 pub mod Frame
 pub mod Shown
 pub mod Truths
