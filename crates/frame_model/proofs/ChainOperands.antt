@@ -1,5 +1,5 @@
 -- The operands of chains in a valid module's frame.
-use Rattle.std.proofs.Common.{◌≡◌, ℕ, ◌+◌, ◌==◌, Bool, true, false, List, [], ◌∷◌, length, drop, slice_index, refl, ap, sym, ◌∙◌, subst, arith, Option, None, Some, is_some}
+use Rattle.std.proofs.Common.{◌≡◌, ℕ, ◌+◌, ◌≤◌, ◌^◌, ◌==◌, get_or, Bool, true, false, List, [], ◌∷◌, length, drop, slice_index, refl, ap, sym, ◌∙◌, subst, arith, Option, None, Some, is_some}
 use Rattle.std.specs.Option.{option_map, option_and_then}
 use Rattle.spirv_model.specs.declared.module.Inst.{Inst}
 use Rattle.spirv_model.specs.declared.module.Words.{Words}
@@ -15,7 +15,7 @@ use Rattle.check_model.specs.declared.components.Part.TheVariants as part
 use Rattle.check_model.specs.MemoryOperands.{chain_along, chain_step, memory_operands_fit}
 use Rattle.check_model.specs.Typing.{type_id, constant_word}
 use Rattle.check_model.specs.Validity.{IsValidList}
-use Rattle.stage_model.specs.Value.{Value, Word, Layout, OneTruth, OneWord, Several, Layouts, part_at, part_along}
+use Rattle.stage_model.specs.Value.{Value, Word, Layout, OneTruth, OneWord, Several, Layouts, size_of, part_at, part_along}
 use Rattle.stage_model.specs.Program.{Program, program_of}
 use Rattle.stage_model.specs.Start.{Values, Memory, all_values}
 use Rattle.stage_model.specs.Effect.{Gives, read_ids, result_of, effect_of, all_words, chained, chain_of}
@@ -28,13 +28,13 @@ use Rattle.typed_model.proofs.ReadTypes.{Each, IsTyped, chain_typed}
 use Rattle.typed_model.proofs.ReadValues.{typing_here, numbers_typed}
 use Rattle.typed_model.proofs.ValidModules.{valid_sound}
 use Rattle.typed_model.proofs.ValidTypes.{valid_types}
-use Rattle.frame_model.specs.Along.{ShowsIndex, ShowsIndices, TakesIndices}
-use Rattle.frame_model.specs.Frame.{frame_place, in_frame}
+use Rattle.frame_model.specs.Along.{word_along, ShowsIndex, ShowsIndices, TakesIndices}
+use Rattle.frame_model.specs.Frame.{OUTSIDE, frame_place, in_frame}
 use Rattle.frame_model.specs.Shown.{IsFrame, Shows}
 use Rattle.frame_model.specs.Written.{GivesAt}
 use Rattle.frame_model.proofs.AccessOperands.{StandsFor, stands_for, word_of_value, first_read, memory_class, memory_fit, FitsHere, some_gives, op_is}
 use Rattle.frame_model.proofs.LayoutParts.{further, same_part}
-use Rattle.frame_model.proofs.MemoryAccesses.{Chains, chains}
+use Rattle.frame_model.proofs.MemoryAccesses.{Chains, chain_outside, chain_at, chains}
 
 same_some : {A : Type 0} (x y : A) → Some x ≡ Some y → x ≡ y
 same_some x y is = cc
@@ -189,3 +189,24 @@ chain_stands words v frame held place value g is =
       takes = i.takes;
       chains = chains words v r.class r.from l.0 i.indices p.pointer value l.1 points (sym (ap (option_and_then (chained program p.pointer)) i.are) ∙ p.gives);
     }
+
+-- outside the word that the code reads for the pointer stays
+pub chain_stays : (words : Words) (frame : List ℕ) (place : ℕ) (value : Value) (s : ChainStands words frame place value) → get_or frame (frame_place (program_of words.insts) s.stands.at) 0 ≡ OUTSIDE → in_frame (program_of words.insts) value ≡ OUTSIDE ∷ []
+chain_stays words frame place value s is = by_case s.chains
+  where
+    by_case : Chains (program_of words.insts) s.layout s.indices s.pointer value → in_frame (program_of words.insts) value ≡ OUTSIDE ∷ []
+    by_case (chain_outside outside stays) = stays
+    by_case (chain_at at word few made) = let e = word_of_value words.insts frame (word_at 2 (inst_at words.insts place)) at s.pointer s.stands word in absurd (omega (arith, e, is, few))
+
+-- inside of a variable it is the place from which the indices lead
+pub chain_goes : (words : Words) (frame : List ℕ) (place : ℕ) (value : Value) (s : ChainStands words frame place value) → (get_or frame (frame_place (program_of words.insts) s.stands.at) 0 ≡ OUTSIDE → ⊥)
+    → (get_or frame (frame_place (program_of words.insts) s.stands.at) 0 + size_of s.layout ≤ 2 ^ 26)
+    × (in_frame (program_of words.insts) value ≡ word_along (get_or frame (frame_place (program_of words.insts) s.stands.at) 0) (part_along s.layout s.indices) ∷ [])
+chain_goes words frame place value s isnt = by_case s.chains
+  where
+    by_case : Chains (program_of words.insts) s.layout s.indices s.pointer value → (get_or frame (frame_place (program_of words.insts) s.stands.at) 0 + size_of s.layout ≤ 2 ^ 26)
+        × (in_frame (program_of words.insts) value ≡ word_along (get_or frame (frame_place (program_of words.insts) s.stands.at) 0) (part_along s.layout s.indices) ∷ [])
+    by_case (chain_outside outside stays) = absurd (isnt (word_of_value words.insts frame (word_at 2 (inst_at words.insts place)) OUTSIDE s.pointer s.stands outside))
+    by_case (chain_at at word few made) =
+        let e = word_of_value words.insts frame (word_at 2 (inst_at words.insts place)) at s.pointer s.stands word in
+        (omega (arith, e, few), made ∙ ap (λ (n : ℕ). word_along n (part_along s.layout s.indices) ∷ []) (sym e))

@@ -1,5 +1,6 @@
 pub mod BlockRuns
 pub mod BlockSteps
+pub mod ChainWords
 pub mod CompositeWords
 pub mod Definitions
 pub mod Filled

@@ -8,10 +8,15 @@ ghost use Rattle.stage_model.specs.Effect.{Effect};
 ghost use Rattle.frame_model.specs.Frame.{frame_place, in_frame};
 ghost use Rattle.frame_model.specs.Shown.{ShowsMemory};
 ghost use Rattle.frame_model.specs.Written.{GivesAt, GivesSome, written};
+ghost use Rattle.valid_model.specs.Meanings.{meaning};
+ghost use Rattle.valid_model.specs.declared.meaning.Meaning.TheVariants.{Variable, Shape as OfShape};
+ghost use Rattle.valid_model.specs.declared.meaning.Shape.TheVariants.{Pointer};
+ghost use Rattle.spv_exec.specs.Chains.{ComesTo};
 ghost use Rattle.spv_exec.specs.Accesses.{LoadsSome, StoresAt, StoresSome, memory_after};
 
 use crate::copies::copy_words;
 use crate::module_frame::ModuleFrame;
+use valid_model::{Meaning, Shape};
 
 /// The word that stands for a pointer outside of its variable.
 const OUTSIDE: u32 = 0xffff_ffff;
@@ -54,6 +59,36 @@ pub fn run_variable(of: &ModuleFrame<'_>, place: usize, frame: &mut [u32])
     put(frame, of.frame_place(place), of.memory_place(place) as u32);
 }
 
+/// The id of the type of what a variable holds; 0 for anything else.
+fn held_type(of: &ModuleFrame<'_>, variable: u32) -> u32
+    ensures { (held class to : ℕ) → meaning of.now.insts variable ≡ Variable held class
+        → meaning of.now.insts held ≡ OfShape (Pointer class to) → result ≡ to }
+{
+    let Meaning::Variable { ty, .. } = of.meaning(variable) else {
+        return 0;
+    };
+    let Meaning::Shape(Shape::Pointer { to, .. }) = of.meaning(*ty) else {
+        return 0;
+    };
+    *to
+}
+
+/// The word of a pointer along ids of indices, from where a value of the type with this id begins in the memory.
+fn along(of: &ModuleFrame<'_>, frame: &[u32], begin: u32, ty: u32, ids: &[u32]) -> u32
+    ensures { ComesTo (program_of of.now.insts) frame.now begin ty ids.now result }
+{
+    let mut at = begin;
+    let mut held = ty;
+    for id in ids {
+        let Some(part) = of.part(held, word_of(of, frame, *id)) else {
+            return OUTSIDE;
+        };
+        at = at.wrapping_add(part.start);
+        held = part.ty;
+    }
+    at
+}
+
 /// OpAccessChain.
 pub fn run_chain(of: &ModuleFrame<'_>, place: usize, frame: &mut [u32])
     requires gives { GivesSome (program_of of.now.insts) frame.old place }
@@ -61,8 +96,17 @@ pub fn run_chain(of: &ModuleFrame<'_>, place: usize, frame: &mut [u32])
     ensures { (held : Memory) (value : Value) → GivesAt (program_of of.now.insts) frame.old held place value
         → frame.new ≡ written frame.old (frame_place (program_of of.now.insts) place) (in_frame (program_of of.now.insts) value) }
 {
-    let _at = of.frame_place(place);
-    let _words = frame.len();
+    let _module = of.module();
+    let inst = of.inst(place);
+    let base = inst.word(2);
+    let pointer = word_of(of, frame, base);
+    let to = of.frame_place(place);
+    if pointer == OUTSIDE {
+        put(frame, to, OUTSIDE);
+        return;
+    }
+    let word = along(of, frame, pointer, held_type(of, base), inst.words_from(3));
+    put(frame, to, word);
 }
 
 /// OpLoad.
