@@ -1,5 +1,6 @@
 pub mod AccessOperands
 pub mod ChainOperands
+pub mod FirstTruths
 pub mod FrameLimits
 pub mod FrameSizes
 pub mod FrameWrites
