@@ -1,8 +1,6 @@
 -- What an instruction of a valid module gives its result suits the result, and takes its place in the frame.
-use Rattle.std.proofs.Common.{◌≡◌, ℕ, ◌<◌, ◌==◌, Bool, true, false, if◌then◌else◌, List, [], ◌∷◌, length, refl, ap, sym, ◌∙◌, subst, arith, inl, inr, ◌⊎◌, Option, None, Some}
-use Rattle.std.specs.Option.{option_map, option_and_then}
+use Rattle.std.proofs.Common.{◌≡◌, ℕ, ◌<◌, ◌==◌, true, false, List, [], length, ap, sym, ◌∙◌, subst, arith, Option, None, Some}
 use Rattle.std.proofs.lemmas.Bool.Decides.{nat_tests}
-use Rattle.spirv_model.specs.declared.module.Inst.{Inst}
 use Rattle.spirv_model.specs.declared.module.Words.{Words}
 use Rattle.spirv_model.specs.declared.op.TheConstants as op
 use Rattle.spirv_model.specs.Operands.{word_at, class_of, result}
@@ -13,11 +11,10 @@ use Rattle.valid_model.specs.Definitions.{has_result, definition, inst_at}
 use Rattle.valid_model.specs.Meanings.{known_before, meaning}
 use Rattle.check_model.specs.Typing.{type_id, constant_word}
 use Rattle.check_model.specs.Validity.{IsValidList}
-use Rattle.stage_model.specs.declared.outcome.Kind.TheVariants.{Done, Killed}
-use Rattle.stage_model.specs.Value.{Value, Truth, Word, Composite, Pointer, Outside, words_of}
+use Rattle.stage_model.specs.Value.{Value, Pointer}
 use Rattle.stage_model.specs.Program.{Program, program_of}
 use Rattle.stage_model.specs.Start.{Memory, with_value}
-use Rattle.stage_model.specs.Effect.{Effect, Passes, Gives, Writes, Enters, Goes, Stops, has_result_class, place_of, stored, stores, branches, picks, effect_of}
+use Rattle.stage_model.specs.Effect.{Gives, has_result_class, effect_of}
 use Rattle.typed_model.specs.Values.{IsData, IsOfMeaning, IsOfType}
 use Rattle.typed_model.specs.Types.{HasTypes, Suits}
 use Rattle.typed_model.proofs.BlockResults.{value_known, result_suits}
@@ -33,13 +30,14 @@ use Rattle.frame_model.specs.Shown.{IsFrame, Shows}
 use Rattle.frame_model.specs.Written.{GivesAt, written}
 use Rattle.frame_model.proofs.FrameSizes.{value_size}
 use Rattle.frame_model.proofs.FrameWrites.{Result, shows_written, is_frame_written}
+use Rattle.frame_model.proofs.ResultWords.{Gave, by_variable, by_class, gave}
 
 same : (a b : ℕ) → a == b ≡ true → a ≡ b
 same a b is = grind (arith, nat_tests)
 
 -- ---- a value that suits an id
 
-own_result : (id : ℕ) (found : Option ℕ) → has_result id found ≡ true → found ≡ Some id
+pub own_result : (id : ℕ) (found : Option ℕ) → has_result id found ≡ true → found ≡ Some id
 own_result id None is = cc
 own_result id (Some own) is = ap (λ (n : ℕ). Some n) (same own id is)
 
@@ -54,114 +52,7 @@ pub suited_result : (program : Program) → HasTypes program → (place id type 
 suited_result program types place id type value defined typed suits =
     record { defined = defined; size = value_size program types type value (suits.of_type type typed) ∙ sym (words_of_id program id place type defined typed); suits = suits }
 
--- ---- what gives a value
-
--- OpVariable, or an instruction of a class with results
-abbrev IsGiven : Inst → Value → Type 0
-IsGiven inst value = ((inst.op == op.VARIABLE ≡ true) × (value ≡ Pointer (word_at 1 inst) [])) ⊎ ((has_result_class (class_of inst.op) ≡ true) × (inst.op == op.STORE ≡ false))
-
-tested : {Q A : Type 0} (b : Bool) (x y z : A) → (if b then x else y) ≡ z → (b ≡ true → x ≡ z → Q) → (b ≡ false → y ≡ z → Q) → Q
-tested true x y z is here there = here refl is
-tested false x y z is here there = there refl is
-
--- an effect that is no result
-abbrev IsNone : Option Effect → Type 0
-IsNone found = (value : Value) → found ≡ Some (Gives value) → ⊥
-
-no_passes : IsNone (Some Passes)
-no_passes value is = cc
-
-no_enters : (label : ℕ) → IsNone (Some (Enters label))
-no_enters label value is = cc
-
-no_goes : (label : ℕ) → IsNone (Some (Goes label))
-no_goes label value is = cc
-
-no_done : IsNone (Some (Stops Done))
-no_done value is = cc
-
-no_killed : IsNone (Some (Stops Killed))
-no_killed value is = cc
-
-no_effect : IsNone None
-no_effect value is = cc
-
-no_writes : (variable : ℕ) (words : List ℕ) (found : Option ℕ) → IsNone (option_map (λ place. Writes variable place words) found)
-no_writes variable words None value is = cc
-no_writes variable words (Some place) value is = cc
-
-no_stored : (program : Program) (words : List ℕ) (pointer : Value) → IsNone (stored program words pointer)
-no_stored program words (Pointer variable indices) value is = no_writes variable words (place_of program variable indices) value is
-no_stored program words Outside value is = cc
-no_stored program words (Truth b) value is = cc
-no_stored program words (Word word) value is = cc
-no_stored program words (Composite parts) value is = cc
-
-no_stores_by : (program : Program) (pointer : Value) (words : Option (List ℕ)) → IsNone (option_and_then (λ words. stored program words pointer) words)
-no_stores_by program pointer None value is = cc
-no_stores_by program pointer (Some words) value is = no_stored program words pointer value is
-
-no_stores : (program : Program) (values : List Value) → IsNone (stores program values)
-no_stores program [] value is = cc
-no_stores program (pointer ∷ []) value is = cc
-no_stores program (pointer ∷ object ∷ []) value is = no_stores_by program pointer (words_of object) value is
-no_stores program (pointer ∷ object ∷ other ∷ values) value is = cc
-
-no_branches : (values : List Value) (a b : ℕ) → IsNone (branches values a b)
-no_branches [] a b value is = cc
-no_branches (Truth condition ∷ []) a b value is = cc
-no_branches (Word word ∷ []) a b value is = cc
-no_branches (Composite parts ∷ []) a b value is = cc
-no_branches (Pointer variable indices ∷ []) a b value is = cc
-no_branches (Outside ∷ []) a b value is = cc
-no_branches (first ∷ second ∷ values) a b value is = no_more first second values a b value is
-  where
-    no_more : (first second : Value) (values : List Value) (a b : ℕ) → IsNone (branches (first ∷ second ∷ values) a b)
-    no_more (Truth condition) second values a b value is = cc
-    no_more (Word word) second values a b value is = cc
-    no_more (Composite parts) second values a b value is = cc
-    no_more (Pointer variable indices) second values a b value is = cc
-    no_more Outside second values a b value is = cc
-
-no_picks : (values : List Value) (default : ℕ) (cases : List ℕ) → IsNone (picks values default cases)
-no_picks [] default cases value is = cc
-no_picks (Truth condition ∷ []) default cases value is = cc
-no_picks (Word word ∷ []) default cases value is = cc
-no_picks (Composite parts ∷ []) default cases value is = cc
-no_picks (Pointer variable indices ∷ []) default cases value is = cc
-no_picks (Outside ∷ []) default cases value is = cc
-no_picks (first ∷ second ∷ values) default cases value is = no_more first second values default cases value is
-  where
-    no_more : (first second : Value) (values : List Value) (default : ℕ) (cases : List ℕ) → IsNone (picks (first ∷ second ∷ values) default cases)
-    no_more (Truth condition) second values default cases value is = cc
-    no_more (Word word) second values default cases value is = cc
-    no_more (Composite parts) second values default cases value is = cc
-    no_more (Pointer variable indices) second values default cases value is = cc
-    no_more Outside second values default cases value is = cc
-
-whole : (id : ℕ) (value : Value) → ◌≡◌ {A = Option Effect} (Some (Gives (Pointer id []))) (Some (Gives value)) → value ≡ Pointer id []
-whole id value is = cc
-
-given : (program : Program) (memory : Memory) (inst : Inst) (read : List Value) (value : Value) → effect_of program memory inst read ≡ Some (Gives value) → IsGiven inst value
-unfolding effect_of
-given program memory inst read value is =
-    tested (inst.op == op.LABEL) _ _ _ is (λ is e. absurd (no_enters _ value e))
-    (λ isnt e. tested (inst.op == op.SELECTION_MERGE) _ _ _ e (λ is e. absurd (no_passes value e))
-    (λ isnt e. tested (inst.op == op.LOOP_MERGE) _ _ _ e (λ is e. absurd (no_passes value e))
-    (λ isnt e. tested (inst.op == op.VARIABLE) _ _ _ e (λ is e. inl (is, whole (word_at 1 inst) value e))
-    (λ isnt e. tested (inst.op == op.STORE) _ _ _ e (λ is e. absurd (no_stores program read value e))
-    (λ no_store e. tested (inst.op == op.BRANCH) _ _ _ e (λ is e. absurd (no_goes _ value e))
-    (λ isnt e. tested (inst.op == op.BRANCH_CONDITIONAL) _ _ _ e (λ is e. absurd (no_branches read _ _ value e))
-    (λ isnt e. tested (inst.op == op.SWITCH) _ _ _ e (λ is e. absurd (no_picks read _ _ value e))
-    (λ isnt e. tested (inst.op == op.RETURN) _ _ _ e (λ is e. absurd (no_done value e))
-    (λ isnt e. tested (inst.op == op.UNREACHABLE) _ _ _ e (λ is e. absurd (no_done value e))
-    (λ isnt e. tested (inst.op == op.KILL) _ _ _ e (λ is e. absurd (no_killed value e))
-    (λ isnt e. tested (has_result_class (class_of inst.op)) _ _ _ e (λ has e. inr (has, no_store)) (λ isnt e. absurd (no_effect value e)))))))))))))
-
 -- ---- its result
-
-abbrev program_at : Words → Program
-program_at words = program_of words.insts
 
 -- of a class with results
 class_result : (words : Words) → IsValidList words → (place : ℕ) (value : Value) → place < length words.insts → has_result_class (class_of (inst_at words.insts place).op) ≡ true → (inst_at words.insts place).op == op.STORE ≡ false
@@ -204,12 +95,13 @@ pub effect_result : (words : Words) → IsValidList words → (place : ℕ) (mem
     → IsOfType (program_of words.insts) (word_at 0 (inst_at words.insts place)) value → Result (program_of words.insts) place (word_at 1 (inst_at words.insts place)) value
 effect_result words v place memory read value within is typed =
     let inst = inst_at words.insts place in
-    elim (given (program_of words.insts) memory inst read value is) [
-      | inl (at, whole) ↦
-          let of = subst (λ (x : Value). IsOfType (program_of words.insts) (word_at 0 inst) x) whole typed in
-          subst (λ (x : Value). Result (program_of words.insts) place (word_at 1 inst) x) (sym whole) (variable_result words v place within at of)
-      | inr (has, isnt) ↦ class_result words v place value within has isnt typed
-    ]
+    by_kind (gave (program_of words.insts) memory inst read value is)
+  where
+    by_kind : Gave (program_of words.insts) memory (inst_at words.insts place) read value → Result (program_of words.insts) place (word_at 1 (inst_at words.insts place)) value
+    by_kind (by_variable at whole) =
+        let of = subst (λ (x : Value). IsOfType (program_of words.insts) (word_at 0 (inst_at words.insts place)) x) whole typed in
+        subst (λ (x : Value). Result (program_of words.insts) place (word_at 1 (inst_at words.insts place)) x) (sym whole) (variable_result words v place within at of)
+    by_kind (by_class has isnt made) = class_result words v place value within has isnt typed
 
 pub given_result : (words : Words) → IsValidList words → (frame : List ℕ) (held : Memory) (place : ℕ) (value : Value) → GivesAt (program_of words.insts) frame held place value → Result (program_of words.insts) place (word_at 1 (inst_at words.insts place)) value
 unfolding program_of

@@ -9,6 +9,7 @@ use Rattle.stage_model.specs.Effect.{with_words}
 use Rattle.typed_model.proofs.ValidTypes.{defined_within}
 use Rattle.frame_model.specs.Frame.{memory_place, variable_words}
 use Rattle.frame_model.specs.Shown.{ShowsMemory}
+use Rattle.frame_model.specs.Truths.{HoldsTruths}
 use Rattle.frame_model.specs.Written.{written}
 use Rattle.frame_model.proofs.FrameSizes.{memory_place_within}
 use Rattle.frame_model.proofs.FrameWrites.{apart, one_definition}
@@ -76,11 +77,12 @@ no_le a b less = grind (arith, nat_tests)
 no_lt : (a b : ℕ) → b ≤ a → nat_lt a b ≡ false
 no_lt a b less = grind (arith, nat_tests)
 
-pub shows_stored : (program : Program) (words : List ℕ) (held : Memory) (variable at place : ℕ) (new : List ℕ) → ShowsMemory program words held → Stored program variable at place new
+pub shows_stored : (program : Program) (words : List ℕ) (held : Memory) (variable at place : ℕ) (new : List ℕ) → ShowsMemory program words held → Stored program variable at place new → HoldsTruths program (with_words variable place new held)
     → ShowsMemory program (written words (memory_place program at + place) new) (with_words variable place new held)
-shows_stored program words held variable at place new shows s = record {
+shows_stored program words held variable at place new shows s truths = record {
   size = length_written words new (memory_place program at + place) room ∙ shows.size;
   shows = λ other own k defined less. by_variable other own k (other == variable) refl defined less;
+  truths = truths;
 }
   where
     room : memory_place program at + place + length new ≤ length words

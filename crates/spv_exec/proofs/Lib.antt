@@ -1,6 +1,7 @@
 pub mod BlockRuns
 pub mod BlockSteps
 pub mod BranchTargets
+pub mod ChainWords
 pub mod CompositeWords
 pub mod Definitions
 pub mod Filled
@@ -16,3 +17,4 @@ pub mod StandJumps
 pub mod StandSteps
 pub mod StartsTo
 pub mod StepArms
+pub mod StoreWords

@@ -1,4 +1,5 @@
 pub mod Accesses
+pub mod Chains
 pub mod Branches
 pub mod FirstFrames
 pub mod FlatMachine
