@@ -2,7 +2,7 @@
 -- defined before it.
 use Rattle.std.specs.Prelude.{ℕ, ◌+◌, ◌==◌, if◌then◌else◌, List, [], ◌∷◌, take, Option, None, Some}
 use Rattle.std.specs.List.{sum_by}
-use Rattle.std.specs.Option.{option_and_then, unwrap_or}
+use Rattle.std.specs.Option.{unwrap_or}
 use Rattle.spirv_model.specs.declared.module.Inst.{Inst}
 use Rattle.spirv_model.specs.declared.op.TheConstants.{VARIABLE}
 use Rattle.spirv_model.specs.Operands.{result}
