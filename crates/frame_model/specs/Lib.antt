@@ -1,3 +1,4 @@
+pub mod Componentwise
 pub mod Frame
 pub mod Shown
 pub mod Written
