@@ -1,6 +1,9 @@
 pub mod FrameSizes
 pub mod FrameWrites
+pub mod GivenResults
 pub mod KnownSizes
+pub mod MemoryWrites
+pub mod PartWords
 pub mod ResultWords
 pub mod ScalarWords
 pub mod WrittenWords

@@ -1,4 +1,5 @@
 pub mod Componentwise
 pub mod Frame
 pub mod Shown
+pub mod Truths
 pub mod Written
