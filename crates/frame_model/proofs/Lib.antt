@@ -3,6 +3,7 @@ pub mod FrameWrites
 pub mod GivenResults
 pub mod KnownSizes
 pub mod MemoryWrites
+pub mod OperandReads
 pub mod PartWords
 pub mod ResultWords
 pub mod ScalarWords

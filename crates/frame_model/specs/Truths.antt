@@ -1,5 +1,5 @@
 -- Where truth values stand among the words of a layout, and memories that hold 0 or 1 there.
-use Rattle.std.specs.Prelude.{◌≡◌, ℕ, ◌+◌, ◌-◌, ◌<◌, Bool, true, false, nat_lt, if◌then◌else◌, Some}
+use Rattle.std.specs.Prelude.{◌≡◌, ℕ, ◌-◌, ◌<◌, Bool, true, false, nat_lt, if◌then◌else◌, Some}
 use Rattle.stage_model.specs.Value.{Layout, OneTruth, OneWord, Several, Layouts, NoLayouts, LayoutsOf, size_of}
 use Rattle.stage_model.specs.Program.{Program, held_layout}
 use Rattle.stage_model.specs.Start.{Memory}
