@@ -7,4 +7,5 @@ pub mod OperandReads
 pub mod PartWords
 pub mod ResultWords
 pub mod ScalarWords
+pub mod SelectReads
 pub mod WrittenWords

@@ -141,7 +141,7 @@ operates words v frame held place value o g =
 
 -- ---- of each class
 
-fit_here : (insts : List Inst) (inst : Inst) (of : Option Class) → operands_fit (typing_of insts) inst ≡ true → class_of inst.op ≡ of → operands_fit_class (typing_here insts (is_vertex (facts_of insts))) of inst ≡ true
+pub fit_here : (insts : List Inst) (inst : Inst) (of : Option Class) → operands_fit (typing_of insts) inst ≡ true → class_of inst.op ≡ of → operands_fit_class (typing_here insts (is_vertex (facts_of insts))) of inst ≡ true
 unfolding operands_fit typing_of program_of
 fit_here insts inst of fit is = sym (ap (λ (of : Option Class). operands_fit_class (typing_of insts) of inst) is) ∙ fit
 
