@@ -3,6 +3,7 @@
 
 mod accesses;
 mod block;
+mod components;
 mod composites;
 mod constants;
 mod module_frame;
