@@ -1,7 +1,7 @@
 -- Loops that write words of a frame one by one.
-use Rattle.std.proofs.Common.{◌≡◌, ℕ, zero, suc, ◌+◌, ◌<◌, ◌≤◌, inl, inr, ◌⊎◌, ◌==◌, not, ◌||◌, ◌&&◌, Bool, true, false, List, [], ◌∷◌, ◌++◌, length, map, get_or, set, take, refl, ap, sym, ◌∙◌, arith, length-map}
+use Rattle.std.proofs.Common.{◌≡◌, ℕ, zero, suc, ◌+◌, ◌<◌, ◌≤◌, inl, inr, ◌⊎◌, ◌==◌, not, ◌||◌, ◌&&◌, Bool, true, false, List, [], ◌∷◌, ◌++◌, length, map, get_or, set, take, refl, ap, sym, ◌∙◌, arith}
 use Rattle.std.specs.List.{list_any, list_all}
-use Rattle.std.proofs.lemmas.List.{length-take-le, get_or-map, take_more}
+use Rattle.std.proofs.lemmas.List.{length-map, take_all, length-take-le, get_or-map, take_more}
 use Rattle.std.proofs.lemmas.List.Folds.{list_any-append, list_all-append}
 use Rattle.frame_model.specs.Shown.{words_at}
 use Rattle.frame_model.specs.Written.{written}
@@ -20,10 +20,14 @@ pub next_word : (xs frame new : List ℕ) (at k word : ℕ) → frame ≡ writte
 next_word xs frame new at k word is room less same =
     ap (λ (l : List ℕ). set l (at + k) word) is ∙ (ap (λ (w : ℕ). set (written xs at (take k new)) (at + k) w) same ∙ written_next xs at new k room less)
 
+-- all are written
+pub all_written : (xs frame new : List ℕ) (at k : ℕ) → frame ≡ written xs at (take k new) → length new ≤ k → frame ≡ written xs at new
+all_written xs frame new at k is long = is ∙ ap (λ (l : List ℕ). written xs at l) (take_all k new long)
+
 -- ---- one word of another
 
 pub length_mapped : (f : ℕ → ℕ) (xs : List ℕ) (from count : ℕ) → from + count ≤ length xs → length (map f (words_at xs from count)) ≡ count
-length_mapped f xs from count within = length-map f (words_at xs from count) ∙ length_words_at xs from count within
+length_mapped f xs from count within = length-map (words_at xs from count) f ∙ length_words_at xs from count within
 
 pub mapped_word : (f : ℕ → ℕ) (xs : List ℕ) (from count k : ℕ) → from + count ≤ length xs → k < count → get_or (map f (words_at xs from count)) k 0 ≡ f (get_or xs (from + k) 0)
 mapped_word f xs from count k within less =

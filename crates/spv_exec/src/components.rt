@@ -4,7 +4,7 @@ ghost use Rattle.std.specs.List.{list_any, list_all};
 ghost use Rattle.spv_ops.specs.ScalarWords.{word_of_one, word_of_two};
 ghost use Rattle.frame_model.specs.Shown.{words_at};
 ghost use Rattle.frame_model.specs.Written.{written};
-ghost use Rattle.frame_model.specs.Componentwise.{on_both, chosen_words, is_true_word};
+ghost use Rattle.frame_model.specs.Componentwise.{on_both, chosen_word, chosen_words, is_true_word};
 
 use spv_ops::{binary_word, unary_word};
 
@@ -49,11 +49,17 @@ pub fn write_chosen(conditions: usize, first: usize, second: usize, at: usize, c
         (words_at frame.old first count) (words_at frame.old second count)) }
 {
     for k in 0..count {
-        frame[at + k] = if frame[conditions + k] != 0 {
-            frame[first + k]
-        } else {
-            frame[second + k]
-        };
+        frame[at + k] = chosen_word(frame[conditions + k], frame[first + k], frame[second + k]);
+    }
+}
+
+fn chosen_word(condition: u32, first: u32, second: u32) -> u32
+    ensures { result ≡ chosen_word condition first second }
+{
+    if condition != 0 {
+        first
+    } else {
+        second
     }
 }
 
