@@ -109,8 +109,7 @@ operands_of insts vertex frame values place within size shows (id ∷ ids) read 
 -- ---- operations
 
 -- what an operation on components gives, and its operands
-pub record Operates (insts : List Inst) (frame : List ℕ) (place : ℕ) (value : Value) : Type 0 where
-  pub read : List Value
+pub record Operates (insts : List Inst) (frame : List ℕ) (place : ℕ) (read : List Value) (value : Value) : Type 0 where
   pub gives : operation (inst_at insts place).op read ≡ Some value
   pub operands : AreOperands insts frame place (drop 2 (inst_at insts place).words) read
   pub size : length (in_frame (program_of insts) value) ≡ frame_words (program_of insts) (inst_at insts place)
@@ -126,13 +125,12 @@ result_is : (found : Option Value) (value : Value) → option_map Gives found �
 result_is None value is = cc
 result_is (Some own) value is = cc
 
-pub operates : (words : Words) → IsValidList words → (frame : List ℕ) (held : Memory) (place : ℕ) (value : Value) → IsOperation words.insts (inst_at words.insts place) → GivesAt (program_of words.insts) frame held place value
-    → Operates words.insts frame place value
+pub operates : (words : Words) → IsValidList words → (frame : List ℕ) (held : Memory) (place : ℕ) (value : Value) → IsOperation words.insts (inst_at words.insts place) → (g : GivesAt (program_of words.insts) frame held place value)
+    → Operates words.insts frame place g.read value
 unfolding program_of
 operates words v frame held place value o g =
     let r = given_result words v frame held place value g in
     record {
-      read = g.read;
       gives = result_is (operation (inst_at words.insts place).op g.read) value (sym (o.effect held g.read) ∙ g.effect);
       operands = operands_of words.insts (is_vertex (facts_of words.insts)) frame g.values place g.within g.size g.shows (drop 2 (inst_at words.insts place).words) g.read o.typed (ap (all_values g.values) (sym o.reads) ∙ g.are);
       size = r.size;

@@ -468,7 +468,7 @@ unfolding scalar_result
 no_words opcode word (TruthOf a) t value is = no_result value is
 no_words opcode word (WordOf a) t value is = no_result value is
 
-word_first : (opcode word : ℕ) (first second : Option Scalar) (value : Value)
+pub word_first : (opcode word : ℕ) (first second : Option Scalar) (value : Value)
     → option_map of_scalar (option_and_then (scalar_result opcode) (option_map (λ rest. WordOf word ∷ rest) (option_and_then (λ f. option_map (λ r. f ∷ r) (option_and_then (λ s. option_map (λ r. s ∷ r) (Some [])) second)) first))) ≡ Some value → ⊥
 word_first opcode word None second value is = no_result value is
 word_first opcode word (Some s) None value is = no_result value is

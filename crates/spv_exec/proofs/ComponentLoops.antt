@@ -36,7 +36,7 @@ mapped_word f xs from count k within less =
 
 -- ---- of two
 
-length_both : (f : ℕ → ℕ → ℕ) (xs ys : List ℕ) → length xs ≡ length ys → length (on_both f xs ys) ≡ length xs
+pub length_both : (f : ℕ → ℕ → ℕ) (xs ys : List ℕ) → length xs ≡ length ys → length (on_both f xs ys) ≡ length xs
 length_both f [] ys long = refl
 length_both f (x ∷ xs) [] long = absurd (omega (arith, long))
 length_both f (x ∷ xs) (y ∷ ys) long = ap (λ (n : ℕ). suc n) (length_both f xs ys (omega (arith, long)))

@@ -1,5 +1,6 @@
 pub mod BlockRuns
 pub mod BlockSteps
+pub mod ComponentResults
 pub mod CompositeWords
 pub mod ComponentLoops
 pub mod Definitions

@@ -1,13 +1,15 @@
-ghost use Rattle.std.specs.Prelude.{◌≡◌, ◌==◌, ◌<◌, true, ℕ, length};
-ghost use Rattle.valid_model.specs.Definitions.{inst_at};
+ghost use Rattle.std.specs.Prelude.{◌≡◌, ◌==◌, ◌<◌, true, ℕ, length, drop, ◌∷◌, [], Some};
+ghost use Rattle.valid_model.specs.Definitions.{definition, inst_at};
 ghost use Rattle.stage_model.specs.Value.{Value};
 ghost use Rattle.stage_model.specs.Start.{Memory};
 ghost use Rattle.stage_model.specs.Program.{program_of};
-ghost use Rattle.frame_model.specs.Frame.{frame_place, in_frame};
+ghost use Rattle.frame_model.specs.Frame.{frame_place, frame_words, in_frame};
 ghost use Rattle.frame_model.specs.Written.{GivesAt, GivesSome, written};
 ghost use Rattle.spv_exec.specs.Opcodes.{is_on_components};
 
+use crate::components::{all_words, any_word, write_binary, write_chosen, write_unary};
 use crate::module_frame::ModuleFrame;
+use spirv_model::op;
 
 /// Runs an operation on the components of its operands (SPIR-V specification, sections 3.49.13 to 3.49.15).
 pub fn run_operation(of: &ModuleFrame<'_>, place: usize, frame: &mut [u32])
@@ -16,6 +18,86 @@ pub fn run_operation(of: &ModuleFrame<'_>, place: usize, frame: &mut [u32])
     ensures { (held : Memory) (value : Value) → GivesAt (program_of of.now.insts) frame.old held place value
         → frame.new ≡ written frame.old (frame_place (program_of of.now.insts) place) (in_frame (program_of of.now.insts) value) }
 {
-    let _at = of.frame_place(place);
-    let _words = frame.len();
+    let _module = of.module();
+    match *of.inst(place).words_from(2) {
+        [operand] => run_unary(of, place, operand, frame),
+        [left, right] => run_binary(of, place, left, right, frame),
+        [condition, first, second] => run_select(of, place, condition, first, second, frame),
+        _ => {}
+    }
+}
+
+fn run_unary(of: &ModuleFrame<'_>, place: usize, operand: u32, frame: &mut [u32])
+    requires gives { GivesSome (program_of of.now.insts) frame.old place }
+    requires is { is_on_components (inst_at of.now.insts place).op ≡ true }
+    requires reads { drop 2 (inst_at of.now.insts place).words ≡ operand ∷ [] }
+    ensures { (held : Memory) (value : Value) → GivesAt (program_of of.now.insts) frame.old held place value
+        → frame.new ≡ written frame.old (frame_place (program_of of.now.insts) place) (in_frame (program_of of.now.insts) value) }
+{
+    let _module = of.module();
+    let op = of.inst(place).op;
+    let at = of.frame_place(place);
+    match op {
+        op::ANY => {
+            let (from, count) = span(of, operand);
+            frame[at] = u32::from(any_word(from, count, frame));
+        }
+        op::ALL => {
+            let (from, count) = span(of, operand);
+            frame[at] = u32::from(all_words(from, count, frame));
+        }
+        _ => write_unary(op, of.operand(operand), at, of.frame_words(place), frame),
+    }
+}
+
+fn run_binary(of: &ModuleFrame<'_>, place: usize, left: u32, right: u32, frame: &mut [u32])
+    requires gives { GivesSome (program_of of.now.insts) frame.old place }
+    requires is { is_on_components (inst_at of.now.insts place).op ≡ true }
+    requires reads { drop 2 (inst_at of.now.insts place).words ≡ left ∷ right ∷ [] }
+    ensures { (held : Memory) (value : Value) → GivesAt (program_of of.now.insts) frame.old held place value
+        → frame.new ≡ written frame.old (frame_place (program_of of.now.insts) place) (in_frame (program_of of.now.insts) value) }
+{
+    let _module = of.module();
+    write_binary(
+        of.inst(place).op,
+        of.operand(left),
+        of.operand(right),
+        of.frame_place(place),
+        of.frame_words(place),
+        frame,
+    )
+}
+
+fn run_select(of: &ModuleFrame<'_>, place: usize, condition: u32, first: u32, second: u32, frame: &mut [u32])
+    requires gives { GivesSome (program_of of.now.insts) frame.old place }
+    requires is { is_on_components (inst_at of.now.insts place).op ≡ true }
+    requires reads { drop 2 (inst_at of.now.insts place).words ≡ condition ∷ first ∷ second ∷ [] }
+    ensures { (held : Memory) (value : Value) → GivesAt (program_of of.now.insts) frame.old held place value
+        → frame.new ≡ written frame.old (frame_place (program_of of.now.insts) place) (in_frame (program_of of.now.insts) value) }
+{
+    let _module = of.module();
+    let at = of.frame_place(place);
+    let count = of.frame_words(place);
+    let first = of.operand(first);
+    let second = of.operand(second);
+    let (conditions, many) = span(of, condition);
+    if many == count {
+        write_chosen(conditions, first, second, at, count, frame);
+    } else {
+        let from = if frame[conditions] != 0 { first } else { second };
+        frame.copy_within(from..from + count, at);
+    }
+}
+
+/// Where the value of an id begins in the frame, and how many words it has; none without a definition.
+fn span(of: &ModuleFrame<'_>, id: u32) -> (usize, usize)
+    ensures start { (place : ℕ) → definition of.now.insts id ≡ Some place
+        → result.0 ≡ frame_place (program_of of.now.insts) place }
+    ensures count { (place : ℕ) → definition of.now.insts id ≡ Some place
+        → result.1 ≡ frame_words (program_of of.now.insts) (inst_at of.now.insts place) }
+{
+    match of.definition(id) {
+        Some(place) => (of.frame_place(place as usize), of.frame_words(place as usize)),
+        None => (0, 0),
+    }
 }
