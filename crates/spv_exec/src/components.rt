@@ -53,6 +53,31 @@ pub fn write_chosen(conditions: usize, first: usize, second: usize, at: usize, c
     }
 }
 
+/// Writes so many words of the first or the second part, as the word of a truth value chooses.
+pub fn write_whole(condition: usize, first: usize, second: usize, at: usize, count: usize, frame: &mut [u32])
+    requires room { at + count ≤ length frame.old }
+    requires condition_within { condition < length frame.old }
+    requires first_within { first + count ≤ length frame.old }
+    requires second_within { second + count ≤ length frame.old }
+    ensures { frame.new ≡ written frame.old at (if is_true_word (slice_index frame.old condition)
+        then words_at frame.old first count else words_at frame.old second count) }
+{
+    if frame[condition] != 0 {
+        write_copy(first, at, count, frame);
+    } else {
+        write_copy(second, at, count, frame);
+    }
+}
+
+#[tactic(auto, using(frame_model::proofs::WrittenWords::copied))]
+fn write_copy(from: usize, at: usize, count: usize, frame: &mut [u32])
+    requires room { at + count ≤ length frame.old }
+    requires within { from + count ≤ length frame.old }
+    ensures { frame.new ≡ written frame.old at (words_at frame.old from count) }
+{
+    frame.copy_within(from..from + count, at);
+}
+
 fn chosen_word(condition: u32, first: u32, second: u32) -> u32
     ensures { result ≡ chosen_word condition first second }
 {

@@ -7,7 +7,7 @@ ghost use Rattle.frame_model.specs.Frame.{frame_place, frame_words, in_frame};
 ghost use Rattle.frame_model.specs.Written.{GivesAt, GivesSome, written};
 ghost use Rattle.spv_exec.specs.Opcodes.{is_on_components};
 
-use crate::components::{all_words, any_word, write_binary, write_chosen, write_unary};
+use crate::components::{all_words, any_word, write_binary, write_chosen, write_unary, write_whole};
 use crate::module_frame::ModuleFrame;
 use spirv_model::op;
 
@@ -84,8 +84,7 @@ fn run_select(of: &ModuleFrame<'_>, place: usize, condition: u32, first: u32, se
     if many == count {
         write_chosen(conditions, first, second, at, count, frame);
     } else {
-        let from = if frame[conditions] != 0 { first } else { second };
-        frame.copy_within(from..from + count, at);
+        write_whole(conditions, first, second, at, count, frame);
     }
 }
 
