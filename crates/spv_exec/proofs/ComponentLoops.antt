@@ -24,6 +24,12 @@ next_word xs frame new at k word is room less same =
 pub all_written : (xs frame new : List ℕ) (at k : ℕ) → frame ≡ written xs at (take k new) → length new ≤ k → frame ≡ written xs at new
 all_written xs frame new at k is long = is ∙ ap (λ (l : List ℕ). written xs at l) (take_all k new long)
 
+-- one word is written
+pub one_written : (xs : List ℕ) (at word : ℕ) → at < length xs → set xs at word ≡ written xs at (word ∷ [])
+one_written xs at word room =
+    let e : at + 0 ≡ at = omega arith in
+    ap (λ (l : List ℕ). set l at word) (sym (written_none xs at)) ∙ (ap (λ (k : ℕ). set (written xs at []) k word) (sym e) ∙ written_next xs at (word ∷ []) 0 (omega (arith, room)) (omega arith))
+
 -- ---- one word of another
 
 pub length_mapped : (f : ℕ → ℕ) (xs : List ℕ) (from count : ℕ) → from + count ≤ length xs → length (map f (words_at xs from count)) ≡ count

@@ -1,5 +1,5 @@
 -- What an operation on components reads and gives, in words of the frame.
-use Rattle.std.proofs.Common.{◌≡◌, ℕ, ◌+◌, ◌<◌, ◌≤◌, ◌==◌, inl, inr, ◌⊎◌, Bool, true, false, ◌||◌, if◌then◌else◌, List, [], ◌∷◌, length, map, drop, slice_index, refl, ap, sym, ◌∙◌, subst, arith, Option, None, Some}
+use Rattle.std.proofs.Common.{◌≡◌, ℕ, suc, ◌+◌, ◌<◌, ◌≤◌, ◌==◌, inl, inr, ◌⊎◌, Bool, true, false, ◌||◌, if◌then◌else◌, List, [], ◌∷◌, length, map, drop, slice_index, refl, ap, sym, ◌∙◌, subst, arith, Option, None, Some}
 use Rattle.std.specs.Option.{option_map, option_and_then}
 use Rattle.std.specs.List.{list_any, list_all}
 use Rattle.std.proofs.lemmas.List.{length-map}
@@ -25,9 +25,10 @@ use Rattle.spv_ops.specs.ScalarWords.{scalar_word, word_of_one, word_of_two}
 use Rattle.spv_ops.proofs.ScalarWords.{is_word_of_one, is_word_of_two}
 use Rattle.frame_model.specs.Frame.{frame_words, frame_place, in_frame}
 use Rattle.frame_model.specs.Shown.{words_at}
-use Rattle.frame_model.specs.Written.{GivesAt}
+use Rattle.frame_model.specs.Written.{GivesAt, written}
 use Rattle.frame_model.specs.Componentwise.{on_both, is_true_word, chosen_words}
 use Rattle.frame_model.proofs.FrameWrites.{OperandWords}
+use Rattle.frame_model.proofs.WrittenWords.{words_at_index}
 use Rattle.frame_model.proofs.ScalarWords.{value_word, word_first, ComputesOne, ComputesTwo, unary_words, BinaryWords, binary_words, any_result_words, all_result_words, AreAlike, SelectWords, select_words}
 use Rattle.frame_model.proofs.OperandReads.{Operand, AreOperands, IsOperation, Operates, operates, scalar_operation, any_operation, all_operation}
 use Rattle.frame_model.proofs.SelectReads.{Selects, selects}
@@ -368,3 +369,37 @@ select_run words v frame held place condition left right value is ids g =
       one = λ short. w.one (λ long. short (long ∙ o.size));
       whole = λ short. w.whole (λ long. short (long ∙ o.size));
     }
+
+-- ---- as the code finds them
+
+-- where the words of an id begin
+abbrev pub Begins : List Inst → (id start : ℕ) → Type 0
+Begins insts id start = (at : ℕ) → definition insts id ≡ Some at → start ≡ frame_place (program_of insts) at
+
+pub start_within : (insts : List Inst) (frame : List ℕ) (place id n : ℕ) (words : List ℕ) → HasWords insts frame place id n words → (start count : ℕ) → Begins insts id start → count ≡ n → start + count ≤ length frame
+start_within insts frame place id n words h start count begins same = let e = begins h.at h.defined in let w = h.within in omega (arith, e, w, same)
+
+pub start_apart : (insts : List Inst) (frame : List ℕ) (place id n : ℕ) (words : List ℕ) → HasWords insts frame place id n words → (start count to : ℕ) → Begins insts id start → count ≡ n → to ≡ frame_place (program_of insts) place
+    → (start + count ≤ to) ⊎ (to ≤ start)
+start_apart insts frame place id n words h start count to begins same here =
+    let e = begins h.at h.defined in
+    elim h.apart [
+      | inl early ↦ inl (omega (arith, e, early, same, here))
+      | inr late ↦ inr (omega (arith, e, late, here))
+    ]
+
+pub start_words : (insts : List Inst) (frame : List ℕ) (place id n : ℕ) (words : List ℕ) → HasWords insts frame place id n words → (start count : ℕ) → Begins insts id start → count ≡ n → words_at frame start count ≡ words
+start_words insts frame place id n words h start count begins same =
+    ap (λ (k : ℕ). words_at frame k count) (begins h.at h.defined) ∙ (ap (λ (k : ℕ). words_at frame (frame_place (program_of insts) h.at) k) same ∙ h.are)
+
+pub start_room : (insts : List Inst) (frame : List ℕ) (place : ℕ) → Room insts frame place → (to count : ℕ) → to ≡ frame_place (program_of insts) place → count ≡ frame_words (program_of insts) (inst_at insts place) → to + count ≤ length frame
+start_room insts frame place r to count here same = let room = r.room in omega (arith, room, here, same)
+
+pub same_written : (frame : List ℕ) (to own : ℕ) (new words : List ℕ) → to ≡ own → new ≡ words → written frame to new ≡ written frame own words
+same_written frame to own new words here are = ap (λ (k : ℕ). written frame k new) here ∙ ap (λ (l : List ℕ). written frame own l) are
+
+-- the first word of an operand
+pub first_word : (frame words : List ℕ) (start count : ℕ) → words_at frame start count ≡ words → count ≡ 1 → slice_index frame start ≡ slice_index words 0
+first_word frame words start count are one =
+    let less : 0 < count = omega (arith, one) in let e : start + 0 ≡ start = omega arith in
+    sym (ap (λ (l : List ℕ). slice_index l 0) (sym are) ∙ (words_at_index frame start count 0 less ∙ ap (λ (k : ℕ). slice_index frame k) e))

@@ -1,6 +1,7 @@
 //! Words of a frame that are made one by one of others.
 ghost use Rattle.std.specs.Prelude.{◌≡◌, ◌+◌, ◌<◌, ◌≤◌, ◌⊎◌, length, map, slice_index, if◌then◌else◌, ◌∷◌, []};
 ghost use Rattle.std.specs.List.{list_any, list_all};
+ghost use Rattle.stage_model.specs.Value.{word_of_truth};
 ghost use Rattle.spv_ops.specs.ScalarWords.{word_of_one, word_of_two};
 ghost use Rattle.frame_model.specs.Shown.{words_at};
 ghost use Rattle.frame_model.specs.Written.{written};
@@ -88,8 +89,29 @@ fn chosen_word(condition: u32, first: u32, second: u32) -> u32
     }
 }
 
-/// Whether one of so many words is a true one.
-pub fn any_word(from: usize, count: usize, frame: &[u32]) -> bool
+/// Writes whether one of so many words is a true one.
+#[tactic(auto, using(crate::proofs::ComponentLoops::one_written))]
+pub fn write_any(from: usize, count: usize, at: usize, frame: &mut [u32])
+    requires within { from + count ≤ length frame.old }
+    requires room { at < length frame.old }
+    ensures { frame.new ≡ written frame.old at
+        (word_of_truth (list_any is_true_word (words_at frame.old from count)) ∷ []) }
+{
+    frame[at] = u32::from(any_word(from, count, frame));
+}
+
+/// Writes whether each of so many words is a true one.
+#[tactic(auto, using(crate::proofs::ComponentLoops::one_written))]
+pub fn write_all(from: usize, count: usize, at: usize, frame: &mut [u32])
+    requires within { from + count ≤ length frame.old }
+    requires room { at < length frame.old }
+    ensures { frame.new ≡ written frame.old at
+        (word_of_truth (list_all is_true_word (words_at frame.old from count)) ∷ []) }
+{
+    frame[at] = u32::from(all_words(from, count, frame));
+}
+
+fn any_word(from: usize, count: usize, frame: &[u32]) -> bool
     requires { from + count ≤ length frame.now }
     ensures { result ≡ list_any is_true_word (words_at frame.now from count) }
 {
@@ -100,8 +122,7 @@ pub fn any_word(from: usize, count: usize, frame: &[u32]) -> bool
     any
 }
 
-/// Whether each of so many words is a true one.
-pub fn all_words(from: usize, count: usize, frame: &[u32]) -> bool
+fn all_words(from: usize, count: usize, frame: &[u32]) -> bool
     requires { from + count ≤ length frame.now }
     ensures { result ≡ list_all is_true_word (words_at frame.now from count) }
 {

@@ -7,7 +7,7 @@ ghost use Rattle.frame_model.specs.Frame.{frame_place, frame_words, in_frame};
 ghost use Rattle.frame_model.specs.Written.{GivesAt, GivesSome, written};
 ghost use Rattle.spv_exec.specs.Opcodes.{is_on_components};
 
-use crate::components::{all_words, any_word, write_binary, write_chosen, write_unary, write_whole};
+use crate::components::{write_all, write_any, write_binary, write_chosen, write_unary, write_whole};
 use crate::module_frame::ModuleFrame;
 use spirv_model::op;
 
@@ -40,11 +40,11 @@ fn run_unary(of: &ModuleFrame<'_>, place: usize, operand: u32, frame: &mut [u32]
     match op {
         op::ANY => {
             let (from, count) = span(of, operand);
-            frame[at] = u32::from(any_word(from, count, frame));
+            write_any(from, count, at, frame);
         }
         op::ALL => {
             let (from, count) = span(of, operand);
-            frame[at] = u32::from(all_words(from, count, frame));
+            write_all(from, count, at, frame);
         }
         _ => write_unary(op, of.operand(operand), at, of.frame_words(place), frame),
     }
