@@ -1,3 +1,4 @@
+pub mod FrameLimits
 pub mod FrameSizes
 pub mod FrameWrites
 pub mod GivenResults
