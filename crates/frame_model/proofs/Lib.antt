@@ -1,3 +1,4 @@
+pub mod DeclaredStructs
 pub mod FrameLimits
 pub mod FrameSizes
 pub mod FrameWrites
@@ -5,8 +6,10 @@ pub mod GivenResults
 pub mod KnownSizes
 pub mod MemoryWrites
 pub mod OperandReads
+pub mod PartPlaces
 pub mod PartWords
 pub mod ResultWords
 pub mod ScalarWords
 pub mod SelectReads
 pub mod WrittenWords
+pub mod ZeroId

@@ -1,7 +1,9 @@
 pub mod BlockRuns
 pub mod BlockSteps
+pub mod ComponentLoops
 pub mod ComponentResults
 pub mod CompositeWords
-pub mod ComponentLoops
 pub mod Definitions
 pub mod Filled
+pub mod PlacesTo
+pub mod StartsTo
