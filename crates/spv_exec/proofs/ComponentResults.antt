@@ -403,3 +403,23 @@ pub first_word : (frame words : List ℕ) (start count : ℕ) → words_at frame
 first_word frame words start count are one =
     let less : 0 < count = omega (arith, one) in let e : start + 0 ≡ start = omega arith in
     sym (ap (λ (l : List ℕ). slice_index l 0) (sym are) ∙ (words_at_index frame start count 0 less ∙ ap (λ (k : ℕ). slice_index frame k) e))
+
+-- ---- lists by their length
+
+pub list_one : (xs : List ℕ) → length xs ≡ 1 → xs ≡ slice_index xs 0 ∷ []
+list_one [] is = cc
+list_one (a ∷ []) is = refl
+list_one (a ∷ b ∷ xs) is = absurd (omega (arith, is))
+
+pub list_two : (xs : List ℕ) → length xs ≡ 2 → xs ≡ slice_index xs 0 ∷ slice_index xs 1 ∷ []
+list_two [] is = cc
+list_two (a ∷ []) is = absurd (omega (arith, is))
+list_two (a ∷ b ∷ []) is = refl
+list_two (a ∷ b ∷ c ∷ xs) is = absurd (omega (arith, is))
+
+pub list_three : (xs : List ℕ) → length xs ≡ 3 → xs ≡ slice_index xs 0 ∷ slice_index xs 1 ∷ slice_index xs 2 ∷ []
+list_three [] is = cc
+list_three (a ∷ []) is = absurd (omega (arith, is))
+list_three (a ∷ b ∷ []) is = absurd (omega (arith, is))
+list_three (a ∷ b ∷ c ∷ []) is = refl
+list_three (a ∷ b ∷ c ∷ d ∷ xs) is = absurd (omega (arith, is))

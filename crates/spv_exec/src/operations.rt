@@ -19,11 +19,24 @@ pub fn run_operation(of: &ModuleFrame<'_>, place: usize, frame: &mut [u32])
         → frame.new ≡ written frame.old (frame_place (program_of of.now.insts) place) (in_frame (program_of of.now.insts) value) }
 {
     let _module = of.module();
-    match *of.inst(place).words_from(2) {
-        [operand] => run_unary(of, place, operand, frame),
-        [left, right] => run_binary(of, place, left, right, frame),
-        [condition, first, second] => run_select(of, place, condition, first, second, frame),
-        _ => {}
+    run_on(of, place, of.inst(place).words_from(2), frame);
+}
+
+fn run_on(of: &ModuleFrame<'_>, place: usize, reads: &[u32], frame: &mut [u32])
+    requires gives { GivesSome (program_of of.now.insts) frame.old place }
+    requires is { is_on_components (inst_at of.now.insts place).op ≡ true }
+    requires reads { reads.now ≡ drop 2 (inst_at of.now.insts place).words }
+    ensures { (held : Memory) (value : Value) → GivesAt (program_of of.now.insts) frame.old held place value
+        → frame.new ≡ written frame.old (frame_place (program_of of.now.insts) place) (in_frame (program_of of.now.insts) value) }
+{
+    let _module = of.module();
+    let many = reads.len();
+    if many == 1 {
+        run_unary(of, place, reads[0], frame);
+    } else if many == 2 {
+        run_binary(of, place, reads[0], reads[1], frame);
+    } else {
+        run_select(of, place, reads[0], reads[1], reads[2], frame);
     }
 }
 
@@ -37,16 +50,14 @@ fn run_unary(of: &ModuleFrame<'_>, place: usize, operand: u32, frame: &mut [u32]
     let _module = of.module();
     let op = of.inst(place).op;
     let at = of.frame_place(place);
-    match op {
-        op::ANY => {
-            let (from, count) = span(of, operand);
-            write_any(from, count, at, frame);
-        }
-        op::ALL => {
-            let (from, count) = span(of, operand);
-            write_all(from, count, at, frame);
-        }
-        _ => write_unary(op, of.operand(operand), at, of.frame_words(place), frame),
+    if op == op::ANY {
+        let (from, count) = span(of, operand);
+        write_any(from, count, at, frame);
+    } else if op == op::ALL {
+        let (from, count) = span(of, operand);
+        write_all(from, count, at, frame);
+    } else {
+        write_unary(op, of.operand(operand), at, of.frame_words(place), frame);
     }
 }
 
