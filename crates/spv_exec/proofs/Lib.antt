@@ -5,5 +5,7 @@ pub mod ComponentResults
 pub mod CompositeWords
 pub mod Definitions
 pub mod Filled
+pub mod LargeOpcodes
 pub mod PlacesTo
+pub mod ScalarResults
 pub mod StartsTo

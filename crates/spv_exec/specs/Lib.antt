@@ -6,6 +6,7 @@ pub mod FlatValue
 pub mod ModuleFrames
 pub mod Opcodes
 pub mod PreparedFor
+pub mod ScalarWords
 pub mod Steps
 pub mod Variables
 pub mod Views

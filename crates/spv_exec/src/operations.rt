@@ -1,15 +1,28 @@
-ghost use Rattle.std.specs.Prelude.{◌≡◌, ◌==◌, ◌<◌, true, ℕ, length, drop, ◌∷◌, [], Some};
+ghost use Rattle.std.specs.Prelude.{◌≡◌, ◌==◌, true, List, drop, ◌∷◌, [], Some};
 ghost use Rattle.valid_model.specs.Definitions.{definition, inst_at};
-ghost use Rattle.stage_model.specs.Value.{Value};
-ghost use Rattle.stage_model.specs.Start.{Memory};
+ghost use Rattle.stage_model.specs.Value.{Value, words_of};
+ghost use Rattle.stage_model.specs.Start.{Memory, scalar_value};
 ghost use Rattle.stage_model.specs.Program.{program_of};
 ghost use Rattle.frame_model.specs.Frame.{frame_place, frame_words, in_frame};
 ghost use Rattle.frame_model.specs.Written.{GivesAt, GivesSome, written};
 ghost use Rattle.spv_exec.specs.Opcodes.{is_on_components};
+ghost use Rattle.spv_exec.specs.ScalarWords.{AreWords};
 
 use crate::components::{write_all, write_any, write_binary, write_chosen, write_unary, write_whole};
 use crate::module_frame::ModuleFrame;
 use spirv_model::op;
+use spv_ops::result_word;
+
+/// The word of the result of a scalar operation, by the words of its operands. A truth value is the word 1 or 0.
+pub fn scalar_word(opcode: u32, words: &[u32]) -> u32
+    ensures { (read : List Value) (value : Value) → scalar_value opcode read ≡ Some value → AreWords read words.now
+        → words_of value ≡ Some (result ∷ []) }
+{
+    match u16::try_from(opcode) {
+        Ok(op) => result_word(op, words),
+        Err(_) => 0,
+    }
+}
 
 /// Runs an operation on the components of its operands (SPIR-V specification, sections 3.49.13 to 3.49.15).
 pub fn run_operation(of: &ModuleFrame<'_>, place: usize, frame: &mut [u32])
