@@ -6,6 +6,7 @@ pub mod CompositeWords
 pub mod Definitions
 pub mod Filled
 pub mod LargeOpcodes
+pub mod PartAnswers
 pub mod PlacesTo
 pub mod ScalarResults
 pub mod StartsTo

@@ -43,7 +43,9 @@ impl<'m> Variables<'m> {
         ensures { IfOk result (λ variables. variables ≡ of.now) }
     {
         let _taken: Vec<u32> = Vec::new(alloc);
-        Ok(Variables { module: of.module() })
+        Ok(Variables {
+            module: of.module(),
+        })
     }
 
     /// Clears the memory, and fills in inputs, uniforms and push constants.
