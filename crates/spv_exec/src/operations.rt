@@ -1,4 +1,4 @@
-ghost use Rattle.std.specs.Prelude.{◌≡◌, ◌==◌, true, List, drop, ◌∷◌, [], Some};
+ghost use Rattle.std.specs.Prelude.{◌≡◌, ◌==◌, true, List, ℕ, drop, ◌∷◌, [], Some};
 ghost use Rattle.valid_model.specs.Definitions.{definition, inst_at};
 ghost use Rattle.stage_model.specs.Value.{Value, words_of};
 ghost use Rattle.stage_model.specs.Start.{Memory, scalar_value};
