@@ -15,7 +15,8 @@ pub fn write_unary(op: u16, from: usize, at: usize, count: usize, frame: &mut [u
     requires room { at + count ≤ length frame.old }
     requires within { from + count ≤ length frame.old }
     requires apart { (from + count ≤ at) ⊎ (at ≤ from) }
-    ensures { frame.new ≡ written frame.old at (map (word_of_one op) (words_at frame.old from count)) }
+    ensures { frame.new ≡ written frame.old at
+        (map (word_of_one op) (words_at frame.old from count)) }
 {
     for k in 0..count {
         frame[at + k] = unary_word(op, frame[from + k]);
@@ -29,8 +30,8 @@ pub fn write_binary(op: u16, left: usize, right: usize, at: usize, count: usize,
     requires right_within { right + count ≤ length frame.old }
     requires left_apart { (left + count ≤ at) ⊎ (at ≤ left) }
     requires right_apart { (right + count ≤ at) ⊎ (at ≤ right) }
-    ensures { frame.new ≡ written frame.old at
-        (on_both (word_of_two op) (words_at frame.old left count) (words_at frame.old right count)) }
+    ensures { frame.new ≡ written frame.old at (on_both (word_of_two op)
+        (words_at frame.old left count) (words_at frame.old right count)) }
 {
     for k in 0..count {
         frame[at + k] = binary_word(op, frame[left + k], frame[right + k]);
@@ -38,7 +39,14 @@ pub fn write_binary(op: u16, left: usize, right: usize, at: usize, count: usize,
 }
 
 /// Writes so many words, each the first or the second, as the words of truth values choose.
-pub fn write_chosen(conditions: usize, first: usize, second: usize, at: usize, count: usize, frame: &mut [u32])
+pub fn write_chosen(
+    conditions: usize,
+    first: usize,
+    second: usize,
+    at: usize,
+    count: usize,
+    frame: &mut [u32],
+)
     requires room { at + count ≤ length frame.old }
     requires conditions_within { conditions + count ≤ length frame.old }
     requires first_within { first + count ≤ length frame.old }
@@ -55,7 +63,14 @@ pub fn write_chosen(conditions: usize, first: usize, second: usize, at: usize, c
 }
 
 /// Writes so many words of the first or the second part, as the word of a truth value chooses.
-pub fn write_whole(condition: usize, first: usize, second: usize, at: usize, count: usize, frame: &mut [u32])
+pub fn write_whole(
+    condition: usize,
+    first: usize,
+    second: usize,
+    at: usize,
+    count: usize,
+    frame: &mut [u32],
+)
     requires room { at + count ≤ length frame.old }
     requires condition_within { condition < length frame.old }
     requires first_within { first + count ≤ length frame.old }
@@ -82,11 +97,7 @@ fn write_copy(from: usize, at: usize, count: usize, frame: &mut [u32])
 fn chosen_word(condition: u32, first: u32, second: u32) -> u32
     ensures { result ≡ chosen_word condition first second }
 {
-    if condition != 0 {
-        first
-    } else {
-        second
-    }
+    if condition != 0 { first } else { second }
 }
 
 /// Writes whether one of so many words is a true one.
