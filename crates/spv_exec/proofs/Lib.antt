@@ -15,6 +15,15 @@ pub mod StandEnters
 pub mod StandEnds
 pub mod StandJumps
 pub mod StandSteps
+pub mod ComponentLoops
+pub mod ComponentResults
+pub mod CompositeWords
+pub mod Definitions
+pub mod Filled
+pub mod LargeOpcodes
+pub mod PartAnswers
+pub mod PlacesTo
+pub mod ScalarResults
 pub mod StartsTo
 pub mod StepArms
 pub mod StoreWords

@@ -9,6 +9,7 @@ pub mod ModuleFrames
 pub mod Opcodes
 pub mod Phis
 pub mod PreparedFor
+pub mod ScalarWords
 pub mod Steps
 pub mod Variables
 pub mod Views

@@ -4,6 +4,7 @@
 mod accesses;
 mod block;
 mod branches;
+mod components;
 mod composites;
 mod constants;
 mod copies;
