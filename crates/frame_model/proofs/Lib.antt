@@ -15,11 +15,7 @@ pub mod PartPlaces
 pub mod PartWords
 pub mod PointerWords
 pub mod ResultWords
-pub mod MemoryWrites
 pub mod OperandReads
-pub mod PartPlaces
-pub mod PartWords
-pub mod ResultWords
 pub mod ScalarWords
 pub mod SelectReads
 pub mod WrittenWords

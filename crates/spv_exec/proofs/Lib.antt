@@ -17,12 +17,7 @@ pub mod StandJumps
 pub mod StandSteps
 pub mod ComponentLoops
 pub mod ComponentResults
-pub mod CompositeWords
-pub mod Definitions
-pub mod Filled
 pub mod LargeOpcodes
-pub mod PartAnswers
-pub mod PlacesTo
 pub mod ScalarResults
 pub mod StartsTo
 pub mod StepArms
