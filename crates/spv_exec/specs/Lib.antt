@@ -1,5 +1,11 @@
+pub mod Accesses
+pub mod FirstFrames
 pub mod FlatMachine
 pub mod FlatStage
 pub mod FlatValue
+pub mod ModuleFrames
+pub mod Opcodes
+pub mod PreparedFor
 pub mod Steps
+pub mod Variables
 pub mod Views

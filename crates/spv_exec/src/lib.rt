@@ -1,9 +1,15 @@
 //! The interpreter: what a module's run leaves.
 #![tactic(auto)]
 
+mod accesses;
 mod block;
+mod composites;
+mod constants;
+mod module_frame;
+mod operations;
 mod run;
 mod values;
+mod variables;
 
 pub use run::run_flat;
 pub use spirv_model::{Inst, Items};

@@ -1,0 +1,145 @@
+ghost use Rattle.std.specs.Prelude.{◌≡◌, ◌<◌, ◌≤◌, ◌^◌, length, ℕ, Some, IfOk};
+ghost use Rattle.spirv_model.specs.declared.module.Words.{Words};
+ghost use Rattle.check_model.specs.Validity.{IsValidList};
+ghost use Rattle.valid_model.specs.Definitions.{definition, inst_at};
+ghost use Rattle.valid_model.specs.Meanings.{meaning};
+ghost use Rattle.stage_model.specs.Program.{program_of};
+ghost use Rattle.stage_model.specs.Stage.{size_in};
+ghost use Rattle.stage_model.specs.Value.{Layout};
+ghost use Rattle.frame_model.specs.Frame.{frame_place, frame_words, memory_place, variable_words};
+ghost use Rattle.spv_exec.specs.ModuleFrames.{AnswersPart, IsModuleFrame};
+
+use spirv_model::Inst;
+use spv_check::Module;
+use std::alloc::{AllocError, Global};
+use std::marker::Model;
+use valid_model::{Meaning, Shape};
+
+/// A valid module, and where the values of its ids lie in one frame of words, and its variables in one memory. It is seen as
+/// the module's instructions and bound.
+#[derive(Drop)]
+pub struct ModuleFrame<'m> {
+    module: &'m Module,
+    frame: Vec<u32>,
+    memory: Vec<u32>,
+}
+
+/// A part of a composite: where it begins, in words, and the id of its type; 0 for a vector's component.
+#[derive(Clone, Copy, Debug, Drop, PartialEq, Eq)]
+pub struct Part {
+    pub start: u32,
+    pub ty: u32,
+}
+
+impl<'m> Model for ModuleFrame<'m> {
+    ghost Value = { Words };
+
+    ghost view = { λ m. m.module.now };
+
+    ghost invariant = { λ m. IsModuleFrame m.module.now m.frame.items m.memory.items };
+}
+
+impl<'m> ModuleFrame<'m> {
+    /// The module.
+    pub fn module(&self) -> &'m Module
+        ensures is { result.now ≡ self.now }
+        ensures valid { IsValidList self.now }
+        ensures few { length self.now.insts < 2 ^ 32 }
+    {
+        self.module
+    }
+
+    /// How many instructions it has.
+    pub fn count(&self) -> usize
+        ensures { result ≡ length self.now.insts }
+    {
+        self.module.insts().len()
+    }
+
+    /// The instruction at a place.
+    pub fn inst(&self, place: usize) -> &'m Inst
+        requires { place < length self.now.insts }
+        ensures { result.now ≡ inst_at self.now.insts place }
+    {
+        &self.module.insts()[place]
+    }
+
+    /// Where the result of the instruction at a place begins in the frame; at the module's end, the frame's length.
+    pub fn frame_place(&self, place: usize) -> usize
+        requires { place ≤ length self.now.insts }
+        ensures { result ≡ frame_place (program_of self.now.insts) place }
+    {
+        self.frame[place] as usize
+    }
+
+    /// The words of the result of the instruction at a place.
+    pub fn frame_words(&self, place: usize) -> usize
+        requires { place < length self.now.insts }
+        ensures { result ≡ frame_words (program_of self.now.insts) (inst_at self.now.insts place) }
+    {
+        (self.frame[place + 1] - self.frame[place]) as usize
+    }
+
+    /// Where the variable that the instruction at a place makes begins in the memory; at the module's end, the memory's length.
+    pub fn memory_place(&self, place: usize) -> usize
+        requires { place ≤ length self.now.insts }
+        ensures { result ≡ memory_place (program_of self.now.insts) place }
+    {
+        self.memory[place] as usize
+    }
+
+    /// The words of the variable that the instruction at a place makes; none where it makes none.
+    pub fn memory_words(&self, place: usize) -> usize
+        requires { place < length self.now.insts }
+        ensures { result ≡ variable_words (program_of self.now.insts) (inst_at self.now.insts place) }
+    {
+        (self.memory[place + 1] - self.memory[place]) as usize
+    }
+
+    /// The place of an id's definition.
+    pub fn definition(&self, id: u32) -> Option<u32>
+        ensures { result ≡ definition self.now.insts id }
+    {
+        self.module.ids().place(id)
+    }
+
+    /// Where the value of an id begins in the frame; 0 without a definition.
+    pub fn operand(&self, id: u32) -> usize
+        ensures { (place : ℕ) → definition self.now.insts id ≡ Some place → result ≡ frame_place (program_of self.now.insts) place }
+    {
+        match self.module.ids().place(id) {
+            Some(place) => self.frame_place(place as usize),
+            None => 0,
+        }
+    }
+
+    /// What an id means.
+    pub fn meaning(&self, id: u32) -> &Meaning
+        ensures { result.now ≡ meaning self.now.insts id }
+    {
+        self.module.ids().at(id)
+    }
+
+    /// The words of a value of the type with this id; none where it is no type of data.
+    pub fn type_words(&self, id: u32) -> u32
+        ensures { result ≡ size_in ((program_of self.now.insts).layout id) }
+    {
+        self.module.ids().size(id)
+    }
+
+    /// The part of a type of data with an index: an element, a member or a component; none where it has no such part.
+    pub fn part(&self, ty: u32, index: u32) -> Option<Part>
+        ensures { (layout : Layout) → (program_of self.now.insts).layout ty ≡ Some layout
+            → AnswersPart (program_of self.now.insts) layout index result }
+    {
+        match self.meaning(ty) {
+            Meaning::Shape(Shape::BoolVector { comps } | Shape::IntVector { comps, .. }) if index < u32::from(*comps) => {
+                Some(Part { start: index, ty: 0 })
+            }
+            Meaning::Shape(Shape::Array { elem, len }) if index < *len => {
+                Some(Part { start: index.wrapping_mul(self.type_words(*elem)), ty: *elem })
+            }
+            _ => None,
+        }
+    }
+}
