@@ -1,21 +1,46 @@
 -- Where a module's values lie in its frame, as the code keeps it, and parts of types.
-use Rattle.std.specs.Prelude.{◌≡◌, ℕ, ◌+◌, ◌≤◌, ◌⊎◌, List, [], ◌∷◌, length, slice_index, Option, None, Some}
+use Rattle.std.specs.Prelude.{◌≡◌, ℕ, ◌+◌, ◌^◌, ◌<◌, ◌≤◌, ◌==◌, true, ◌⊎◌, List, [], ◌∷◌, length, take, slice_index, Option, None, Some}
+use Rattle.std.specs.List.{sum_by}
 use Rattle.spirv_model.specs.declared.module.Words.{Words}
+use Rattle.spirv_model.specs.declared.op.TheConstants.{TYPE_STRUCT}
+use Rattle.spirv_model.specs.Operands.{words_from}
+use Rattle.valid_model.specs.Definitions.{inst_at}
 use Rattle.check_model.specs.Validity.{IsValidList}
 use Rattle.stage_model.specs.Value.{Layout, OneTruth, OneWord, part_along}
 use Rattle.stage_model.specs.Program.{Program, program_of}
+use Rattle.stage_model.specs.Stage.{size_in}
 use Rattle.frame_model.specs.Frame.{frame_place, memory_place}
 use Rattle.spv_exec.specs.declared.module_frame.Part.{Part}
 
--- the places of a module's results in the frame, and of its variables in the memory, up to the end of the module
-pub record ArePlaces (program : Program) (frame memory : List ℕ) : Type 0 where
-  pub frame_count : length frame ≡ length program.insts + 1
-  pub memory_count : length memory ≡ length program.insts + 1
-  pub frame_places : (place : ℕ) → place ≤ length program.insts → slice_index frame place ≡ frame_place program place
-  pub memory_places : (place : ℕ) → place ≤ length program.insts → slice_index memory place ≡ memory_place program place
+-- the places of a module's results in the frame, up to the end of the module
+pub record AreFramePlaces (program : Program) (places : List ℕ) : Type 0 where
+  pub count : length places ≡ length program.insts + 1
+  pub are : (place : ℕ) → place ≤ length program.insts → slice_index places place ≡ frame_place program place
 
-abbrev pub IsModuleFrame : Words → (frame memory : List ℕ) → Type 0
-IsModuleFrame words frame memory = IsValidList words × ArePlaces (program_of words.insts) frame memory
+-- the places of its variables in the memory
+pub record AreMemoryPlaces (program : Program) (places : List ℕ) : Type 0 where
+  pub count : length places ≡ length program.insts + 1
+  pub are : (place : ℕ) → place ≤ length program.insts → slice_index places place ≡ memory_place program place
+
+-- the words of the members of a structure in front of one of them
+abbrev pub words_before : Program → List ℕ → ℕ → ℕ
+words_before program members index = sum_by (λ id. size_in (program.layout id)) (take index members)
+
+-- the starts of the members of each structure, which begin for the instruction at a place at its first
+pub record AreMemberStarts (program : Program) (firsts starts : List ℕ) : Type 0 where
+  pub count : length firsts ≡ length program.insts
+  pub within : (place : ℕ) → place < length program.insts → (inst_at program.insts place).op == TYPE_STRUCT ≡ true
+      → slice_index firsts place + length (words_from 1 (inst_at program.insts place)) ≤ length starts
+  pub are : (place index : ℕ) → place < length program.insts → (inst_at program.insts place).op == TYPE_STRUCT ≡ true → index < length (words_from 1 (inst_at program.insts place))
+      → slice_index starts (slice_index firsts place + index) ≡ words_before program (words_from 1 (inst_at program.insts place)) index
+
+-- what the code keeps of a module
+pub record IsModuleFrame (words : Words) (frame memory firsts starts : List ℕ) : Type 0 where
+  pub valid : IsValidList words
+  pub few : length words.insts < 2 ^ 32
+  pub in_frame : AreFramePlaces (program_of words.insts) frame
+  pub in_memory : AreMemoryPlaces (program_of words.insts) memory
+  pub members : AreMemberStarts (program_of words.insts) firsts starts
 
 -- the type that a part is told to have has the part's layout; a vector's component is told without a type
 abbrev pub HasPartType : Program → ℕ → Layout → Type 0

@@ -5,8 +5,10 @@ mod accesses;
 mod block;
 mod composites;
 mod constants;
+mod member_starts;
 mod module_frame;
 mod operations;
+mod places;
 mod run;
 mod values;
 mod variables;
@@ -16,5 +18,7 @@ pub use spirv_model::{Inst, Items};
 pub use stage_model::{Ended, Kind};
 pub use std::alloc::AllocError as Memory;
 
+#[cfg(test)]
+mod module_frame_tests;
 #[cfg(test)]
 mod tests;

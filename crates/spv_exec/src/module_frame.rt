@@ -9,6 +9,8 @@ ghost use Rattle.stage_model.specs.Value.{Layout};
 ghost use Rattle.frame_model.specs.Frame.{frame_place, frame_words, memory_place, variable_words};
 ghost use Rattle.spv_exec.specs.ModuleFrames.{AnswersPart, IsModuleFrame};
 
+use crate::member_starts::MemberStarts;
+use crate::places::{frame_places, memory_places};
 use spirv_model::Inst;
 use spv_check::Module;
 use std::alloc::{AllocError, Global};
@@ -22,6 +24,7 @@ pub struct ModuleFrame<'m> {
     module: &'m Module,
     frame: Vec<u32>,
     memory: Vec<u32>,
+    members: MemberStarts,
 }
 
 /// A part of a composite: where it begins, in words, and the id of its type; 0 for a vector's component.
@@ -36,10 +39,26 @@ impl<'m> Model for ModuleFrame<'m> {
 
     ghost view = { λ m. m.module.now };
 
-    ghost invariant = { λ m. IsModuleFrame m.module.now m.frame.items m.memory.items };
+    ghost invariant = { λ m. IsModuleFrame m.module.now m.frame.items m.memory.items
+        m.members.firsts.items m.members.starts.items };
 }
 
 impl<'m> ModuleFrame<'m> {
+    /// That of a module.
+    pub fn new(alloc: Global, module: &'m Module) -> Result<ModuleFrame<'m>, AllocError>
+        ensures { IfOk result (λ frame. frame ≡ module.now) }
+    {
+        let frame = frame_places(alloc, module)?;
+        let memory = memory_places(alloc, module)?;
+        let members = MemberStarts::new(alloc, module)?;
+        Ok(ModuleFrame {
+            module,
+            frame,
+            memory,
+            members,
+        })
+    }
+
     /// The module.
     pub fn module(&self) -> &'m Module
         ensures is { result.now ≡ self.now }
@@ -133,13 +152,47 @@ impl<'m> ModuleFrame<'m> {
             → AnswersPart (program_of self.now.insts) layout index result }
     {
         match self.meaning(ty) {
-            Meaning::Shape(Shape::BoolVector { comps } | Shape::IntVector { comps, .. }) if index < u32::from(*comps) => {
-                Some(Part { start: index, ty: 0 })
-            }
-            Meaning::Shape(Shape::Array { elem, len }) if index < *len => {
-                Some(Part { start: index.wrapping_mul(self.type_words(*elem)), ty: *elem })
+            Meaning::Shape(Shape::BoolVector { comps }) => component(*comps, index),
+            Meaning::Shape(Shape::IntVector { comps, .. }) => component(*comps, index),
+            Meaning::Shape(Shape::Array { elem, len }) => self.element(*elem, *len, index),
+            Meaning::Shape(Shape::Struct { members }) => {
+                self.member(ty, members.list.as_slice(), index)
             }
             _ => None,
         }
     }
+
+    fn element(&self, elem: u32, len: u32, index: u32) -> Option<Part>
+        requires { len * size_in ((program_of self.now.insts).layout elem) < 2 ^ 32 }
+        ensures { (of : Layout) → (program_of self.now.insts).layout elem ≡ Some of
+            → AnswersPart (program_of self.now.insts) (Several (repeated len of)) index result }
+    {
+        if index >= len {
+            return None;
+        }
+        Some(Part {
+            start: index * self.type_words(elem),
+            ty: elem,
+        })
+    }
+
+    fn member(&self, ty: u32, members: &[u32], index: u32) -> Option<Part>
+        requires { IsStructOf self.now ty members.now }
+        ensures { (layouts : Layouts) → layouts_of (program_of self.now.insts).layout members.now ≡ Some layouts
+            → AnswersPart (program_of self.now.insts) (Several layouts) index result }
+    {
+        let member = members.get(index as usize)?;
+        let place = self.definition(ty)?;
+        Some(Part {
+            start: self.members.start(place as usize, index as usize),
+            ty: *member,
+        })
+    }
+}
+
+fn component(comps: u8, index: u32) -> Option<Part> {
+    if index >= u32::from(comps) {
+        return None;
+    }
+    Some(Part { start: index, ty: 0 })
 }

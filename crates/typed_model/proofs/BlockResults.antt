@@ -62,7 +62,7 @@ constant_gives : gives_value op.CONSTANT ≡ false
 unfolding class_of entry_of
 constant_gives = refl
 
-value_known : (known : Knowledge) (inst : Inst) → gives_value inst.op ≡ true → (known_of known inst).meaning ≡ ValueOf (word_at 0 inst)
+pub value_known : (known : Knowledge) (inst : Inst) → gives_value inst.op ≡ true → (known_of known inst).meaning ≡ ValueOf (word_at 0 inst)
 unfolding known_of
 value_known known inst is =
     let c = class_types (class_of inst.op) is in
