@@ -1,32 +1,20 @@
 -- The words of the result of an instruction of a valid module are those of its type.
-use Rattle.std.proofs.Common.{◌≡◌, ℕ, ◌<◌, ◌==◌, Bool, true, false, if◌then◌else◌, List, [], ◌∷◌, length, refl, ap, sym, ◌∙◌, subst, slice_index, Option, None, Some}
-use Rattle.std.specs.Option.{option_map, option_and_then}
+use Rattle.std.proofs.Common.{◌≡◌, ℕ, ◌<◌, ◌==◌, true, false, List, length, ap, ◌∙◌, Some}
 use Rattle.spirv_model.specs.declared.module.Inst.{Inst}
 use Rattle.spirv_model.specs.declared.module.Words.{Words}
 use Rattle.spirv_model.specs.declared.op.TheConstants as op
-use Rattle.spirv_model.specs.declared.class.Class.{Class}
-use Rattle.spirv_model.specs.declared.class.Class.TheVariants as class
-use Rattle.spirv_model.specs.Operands.{word_at, class_of, entry_of, result}
-use Rattle.valid_model.specs.declared.meaning.Meaning.TheVariants.{Shape as OfShape, Variable}
-use Rattle.valid_model.specs.declared.meaning.Shape.TheVariants.{Pointer as PointerType}
+use Rattle.spirv_model.specs.Operands.{word_at, class_of, result}
 use Rattle.valid_model.specs.Definitions.{definition, inst_at}
-use Rattle.valid_model.specs.Meanings.{is_constant_class, is_constant, known_before, meaning}
+use Rattle.valid_model.specs.Meanings.{known_before, meaning}
 use Rattle.check_model.specs.Typing.{type_id}
 use Rattle.check_model.specs.Validity.{IsValidList}
-use Rattle.stage_model.specs.Value.{Value, Pointer, Outside, Truth, Word, Composite}
-use Rattle.stage_model.specs.Program.{Program, program_of}
-use Rattle.stage_model.specs.Start.{Memory}
-use Rattle.stage_model.specs.Effect.{Effect, Passes, Gives, Writes, Goes, stored, stores, branches, picks, has_result_class, result_of, effect_of, place_of}
-use Rattle.typed_model.specs.Types.{HasTypes}
-use Rattle.typed_model.specs.Values.{IsOfType}
-use Rattle.typed_model.proofs.ValidTypes.{keeps_rules, valid_types}
-use Rattle.typed_model.proofs.ResultIds.{defines, defined_id, typed_result_id}
+use Rattle.stage_model.specs.Program.{program_of}
+use Rattle.stage_model.specs.Effect.{has_result_class}
+use Rattle.typed_model.proofs.ValidTypes.{keeps_rules}
+use Rattle.typed_model.proofs.ResultIds.{typed_result_id}
 use Rattle.typed_model.proofs.ModuleValues.{defined_at, meaning_at}
-use Rattle.typed_model.proofs.ModuleSteps.{constant_known_by}
 use Rattle.typed_model.proofs.BlockResults.{value_known}
-use Rattle.frame_model.specs.Frame.{type_words, id_words, words_of_type, frame_words, in_frame}
-use Rattle.frame_model.specs.Written.{GivesAt}
-use Rattle.frame_model.proofs.FrameSizes.{value_size}
+use Rattle.frame_model.specs.Frame.{type_words, id_words, words_of_type, frame_words}
 
 -- ---- by what the result means
 
