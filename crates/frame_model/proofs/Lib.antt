@@ -1,3 +1,4 @@
+pub mod CompositeResults
 pub mod FrameSizes
 pub mod FrameWrites
 pub mod KnownSizes

@@ -49,7 +49,7 @@ both_are first second front back a b = ap (λ (o : Option (List ℕ)). words_wit
 abbrev pub spliced : List ℕ → (place count : ℕ) → List ℕ → List ℕ
 spliced words place count new = take place words ++ new ++ drop (place + count) words
 
-words_within : (words : List ℕ) (place count inner size : ℕ) → inner + size ≤ count → words_at (words_at words place count) inner size ≡ words_at words (place + inner) size
+pub words_within : (words : List ℕ) (place count inner size : ℕ) → inner + size ≤ count → words_at (words_at words place count) inner size ≡ words_at words (place + inner) size
 words_within words place count inner size fits =
     let split : inner + (count - inner) ≡ count = omega (arith, fits) in
     ap (λ (n : ℕ). take size (drop inner (take n (drop place words)))) (sym split)
@@ -310,14 +310,14 @@ pub record PutWords (layout : Layout) (indices : List ℕ) (object new : Value) 
   pub are : words_of new ≡ Some (spliced words place (size_of part) put)
 
 -- the part that is replaced, and what is put there
-record Replaced (object : Value) (index : ℕ) (indices : List ℕ) (value new : Value) : Type 0 where
-  part : Value
-  is : slice_get (parts_in value) index ≡ Some part
-  inner : Value
-  made : inserted object indices part ≡ Some inner
-  result : new ≡ composite (put index inner (parts_in value))
+pub record Replaced (object : Value) (index : ℕ) (indices : List ℕ) (value new : Value) : Type 0 where
+  pub part : Value
+  pub is : slice_get (parts_in value) index ≡ Some part
+  pub inner : Value
+  pub made : inserted object indices part ≡ Some inner
+  pub result : new ≡ composite (put index inner (parts_in value))
 
-replaced_by : (object : Value) (index : ℕ) (indices : List ℕ) (value new : Value) → inserted object (index ∷ indices) value ≡ Some new → Replaced object index indices value new
+pub replaced_by : (object : Value) (index : ℕ) (indices : List ℕ) (value new : Value) → inserted object (index ∷ indices) value ≡ Some new → Replaced object index indices value new
 replaced_by object index indices value new is = by_part object index indices value new (slice_get (parts_in value) index) refl is
   where
     by_test : (object : Value) (index : ℕ) (indices : List ℕ) (value new part inner : Value) (b : Bool) → slice_get (parts_in value) index ≡ Some part → inserted object indices part ≡ Some inner

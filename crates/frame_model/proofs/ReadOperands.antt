@@ -30,7 +30,7 @@ use Rattle.typed_model.proofs.UsedReads.{IsRead, composite_reads}
 use Rattle.typed_model.proofs.ValidModules.{valid_sound, valid_seen}
 use Rattle.typed_model.proofs.ValidTypes.{valid_types}
 use Rattle.frame_model.specs.Frame.{frame_place, frame_words, in_frame}
-use Rattle.frame_model.specs.Shown.{StandsAt, Shows}
+use Rattle.frame_model.specs.Shown.{words_at, StandsAt, Shows}
 use Rattle.frame_model.specs.Written.{GivesAt}
 use Rattle.frame_model.proofs.FrameSizes.{value_size}
 use Rattle.frame_model.proofs.FrameWrites.{frame_apart}
@@ -41,7 +41,8 @@ pub record OperandAt (insts : List Inst) (frame : List ℕ) (place id : ℕ) (va
   pub at : ℕ
   pub defined : definition insts id ≡ Some at
   pub before : frame_place (program_of insts) at + frame_words (program_of insts) (inst_at insts at) ≤ frame_place (program_of insts) place
-  pub stands : StandsAt (program_of insts) frame at value
+  pub size : length (in_frame (program_of insts) value) ≡ frame_words (program_of insts) (inst_at insts at)
+  pub stands : words_at frame (frame_place (program_of insts) at) (frame_words (program_of insts) (inst_at insts at)) ≡ in_frame (program_of insts) value
   pub type : ℕ
   pub typed : type_id (meaning insts id) ≡ Some type
   pub is : IsOfType (program_of insts) type value
@@ -73,11 +74,13 @@ operand_at : (insts : List Inst) (intervals : List Interval) (frame : List ℕ) 
 unfolding program_of
 operand_at insts intervals frame values place id value within shows read has =
     let d = defined_before intervals place (definition insts id) read.used in
+    let s = shows.stands id d.0 value d.1 has in
     record {
       at = d.0;
       defined = d.1;
       before = frame_apart (program_of insts) d.0 place d.2 (omega (arith, within));
-      stands = shows.stands id d.0 value d.1 has;
+      size = s.size;
+      stands = s.stands;
       type = read.typed.type;
       typed = read.typed.of;
       is = (shows.suits id value has).of_type read.typed.type read.typed.of;

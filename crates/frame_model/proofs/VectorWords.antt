@@ -46,7 +46,7 @@ abbrev pub list_words : List Value → Option (List ℕ)
 list_words values = words_of_parts (parts_from values)
 
 -- the words of two lists of values
-both_lists : (xs ys : List Value) (words : List ℕ) → list_words (xs ++ ys) ≡ Some words → Both (list_words xs) (list_words ys) words
+pub both_lists : (xs ys : List Value) (words : List ℕ) → list_words (xs ++ ys) ≡ Some words → Both (list_words xs) (list_words ys) words
 both_lists [] ys words is = record { front = []; back = words; first_is = refl; second_is = is; are = refl }
 both_lists (x ∷ xs) ys words is =
     let b = both_there (words_of x) (list_words (xs ++ ys)) words is in
