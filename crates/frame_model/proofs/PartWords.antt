@@ -119,7 +119,7 @@ part_words (LayoutsOf first more) parts (suc index) value words have are is =
     let s = split_parts parts first more words have are in
     let p = part_words more s.rest index value s.both.back s.behind s.both.second_is (sym (ap (λ (p : Parts). slice_get (list_of p) (suc index)) s.is) ∙ is) in
     let e : words_at words (size_of first + p.place) (size_of p.layout) ≡ words_at s.both.back p.place (size_of p.layout) =
-        ap (λ (l : List ℕ). words_at l (size_of first + p.place) (size_of p.layout)) s.both.are ∙ behind_front s.both.front s.both.back (size_of first) p.place (size_of p.layout) s.long in
+    ap (λ (l : List ℕ). words_at l (size_of first + p.place) (size_of p.layout)) s.both.are ∙ behind_front s.both.front s.both.back (size_of first) p.place (size_of p.layout) s.long in
     let l = ap length s.both.are ∙ length-append s.both.front s.both.back in
     let long = s.long in let within = p.within in
     record {
@@ -217,9 +217,9 @@ spliced_within words new place count inner size fits room =
     -- what is kept of the part in front, and behind
     let kept : take inner own ≡ take inner (drop place words) = take-take inner count (drop place words) (omega (arith, fits)) in
     let rest : drop (inner + size) own ≡ take (count - (inner + size)) tail =
-        ap (λ (n : ℕ). drop (inner + size) (take n (drop place words))) (sym split)
-        ∙ (drop-take (inner + size) (count - (inner + size)) (drop place words)
-        ∙ ap (take (count - (inner + size))) (drop-drop (inner + size) place words ∙ (let e : place + (inner + size) ≡ place + inner + size = omega arith in ap (λ (n : ℕ). drop n words) e))) in
+    ap (λ (n : ℕ). drop (inner + size) (take n (drop place words))) (sym split)
+    ∙ (drop-take (inner + size) (count - (inner + size)) (drop place words)
+    ∙ ap (take (count - (inner + size))) (drop-drop (inner + size) place words ∙ (let e : place + (inner + size) ≡ place + inner + size = omega arith in ap (λ (n : ℕ). drop n words) e))) in
     let back : drop (place + count) words ≡ drop (count - (inner + size)) tail = ap (λ (n : ℕ). drop n words) (sym last) ∙ sym (drop-drop (count - (inner + size)) (place + inner + size) words) in
     let front : take place words ++ take inner (drop place words) ≡ take (place + inner) words = taken_behind place inner words in
     append_assoc (take place words) (take inner own ++ new ++ drop (inner + size) own) (drop (place + count) words)
@@ -269,7 +269,7 @@ put_words (LayoutsOf first more) parts zero place layout object words new have a
     let s = split_parts parts first more words have are in
     let z = first_place first place layout at in
     let dropped : drop (place + size_of layout) words ≡ s.both.back =
-        ap (λ (n : ℕ). drop (n + size_of layout) words) z.0 ∙ (ap (λ (l : Layout). drop (0 + size_of l) words) z.1 ∙ (ap (drop (0 + size_of first)) s.both.are ∙ drop_at s.both.front s.both.back (0 + size_of first) (let long = s.long in omega (arith, long)))) in
+    ap (λ (n : ℕ). drop (n + size_of layout) words) z.0 ∙ (ap (λ (l : Layout). drop (0 + size_of l) words) z.1 ∙ (ap (drop (0 + size_of first)) s.both.are ∙ drop_at s.both.front s.both.back (0 + size_of first) (let long = s.long in omega (arith, long)))) in
     let made : spliced words place (size_of layout) new ≡ new ++ s.both.back = ap (λ (l : List ℕ). take place words ++ new ++ l) dropped ∙ ap (λ (n : ℕ). take n words ++ new ++ s.both.back) z.0 in
     ap (λ (p : Parts). words_of_parts (parts_from (put 0 object (list_of p)))) s.is
     ∙ (both_are (words_of object) (words_of_parts (parts_from (list_of s.rest))) new s.both.back is (ap words_of_parts (same_parts s.rest) ∙ s.both.second_is) ∙ ap (λ (l : List ℕ). Some l) (sym made))
@@ -279,7 +279,7 @@ put_words (LayoutsOf first more) parts (suc index) place layout object words new
     let r = put_words more s.rest index l.0 layout object s.both.back new s.behind s.both.second_is l.1 is in
     let long = s.long in
     let made : spliced words place (size_of layout) new ≡ s.both.front ++ spliced s.both.back l.0 (size_of layout) new =
-        ap (λ (n : ℕ). spliced words n (size_of layout) new) l.2 ∙ (ap (λ (w : List ℕ). spliced w (size_of first + l.0) (size_of layout) new) s.both.are ∙ spliced_behind s.both.front s.both.back new (size_of first) l.0 (size_of layout) long) in
+    ap (λ (n : ℕ). spliced words n (size_of layout) new) l.2 ∙ (ap (λ (w : List ℕ). spliced w (size_of first + l.0) (size_of layout) new) s.both.are ∙ spliced_behind s.both.front s.both.back new (size_of first) l.0 (size_of layout) long) in
     ap (λ (p : Parts). words_of_parts (parts_from (put (suc index) object (list_of p)))) s.is
     ∙ (ap (λ (values : List Value). words_of_parts (parts_from values)) (put_later index object s.value (list_of s.rest))
     ∙ (both_are (words_of s.value) (words_of_parts (parts_from (put index object (list_of s.rest)))) s.both.front (spliced s.both.back l.0 (size_of layout) new) s.both.first_is r ∙ ap (λ (l : List ℕ). Some l) (sym made)))
@@ -288,8 +288,8 @@ put_words (LayoutsOf first more) parts (suc index) place layout object words new
     spliced_behind front back new size place count long =
         let taken : take (size + place) (front ++ back) ≡ front ++ take place back = take_behind front back size place long in
         let dropped : drop (size + place + count) (front ++ back) ≡ drop (place + count) back =
-            (let e : size + place + count ≡ size + (place + count) = omega arith in ap (λ (n : ℕ). drop n (front ++ back)) e)
-            ∙ (sym (drop-drop (place + count) size (front ++ back)) ∙ ap (drop (place + count)) (drop_at front back size long)) in
+        (let e : size + place + count ≡ size + (place + count) = omega arith in ap (λ (n : ℕ). drop n (front ++ back)) e)
+        ∙ (sym (drop-drop (place + count) size (front ++ back)) ∙ ap (drop (place + count)) (drop_at front back size long)) in
         ap (λ (l : List ℕ). l ++ new ++ drop (size + place + count) (front ++ back)) taken
         ∙ (ap (λ (l : List ℕ). front ++ take place back ++ new ++ l) dropped
         ∙ (ap (λ (l : List ℕ). l ++ drop (place + count) back) (append_assoc front (take place back) new) ∙ append_assoc front (take place back ++ new) (drop (place + count) back)))

@@ -30,7 +30,7 @@ use Rattle.typed_model.proofs.UsedReads.{IsRead, composite_reads}
 use Rattle.typed_model.proofs.ValidModules.{valid_sound, valid_seen}
 use Rattle.typed_model.proofs.ValidTypes.{valid_types}
 use Rattle.frame_model.specs.Frame.{frame_place, frame_words, in_frame}
-use Rattle.frame_model.specs.Shown.{words_at, StandsAt, Shows}
+use Rattle.frame_model.specs.Shown.{words_at, Shows}
 use Rattle.frame_model.specs.Written.{GivesAt}
 use Rattle.frame_model.proofs.FrameSizes.{value_size}
 use Rattle.frame_model.proofs.FrameWrites.{frame_apart}
