@@ -1,4 +1,5 @@
 pub mod CompositeResults
+pub mod FrameLimits
 pub mod FrameSizes
 pub mod FrameWrites
 pub mod KnownSizes

@@ -143,7 +143,7 @@ makes_variable known inst type class is =
     by_tests known inst type class false false false s false true of_type of_op is = cc
     by_tests known inst type class false false false s false false of_type of_op is = cc
 
-pointer_by : (m : Meaning) (class : ℕ) → is_pointer_of class m ≡ true → (to : ℕ) × (m ≡ OfShape (Pointer class to))
+pub pointer_by : (m : Meaning) (class : ℕ) → is_pointer_of class m ≡ true → (to : ℕ) × (m ≡ OfShape (Pointer class to))
 pointer_by (OfShape (Pointer own to)) class is = (to, ap (λ (c : ℕ). OfShape (Pointer c to)) (same own class is))
   where
     same : (a b : ℕ) → a == b ≡ true → a ≡ b
@@ -156,7 +156,7 @@ variable_test x y false true true isnt is unbroken = refl
 variable_test x y false true false isnt is unbroken = cc
 variable_test x y false false p isnt is unbroken = cc
 
-unbroken : (known : Knowledge) (inst : Inst) → breaks_types known inst ≡ false → is_type inst.op ≡ false → inst.op == op.VARIABLE ≡ true → is_pointer_of (word_at 2 inst) (meaning_in (known (word_at 0 inst))) ≡ true
+pub unbroken : (known : Knowledge) (inst : Inst) → breaks_types known inst ≡ false → is_type inst.op ≡ false → inst.op == op.VARIABLE ≡ true → is_pointer_of (word_at 2 inst) (meaning_in (known (word_at 0 inst))) ≡ true
 unfolding breaks_types
 unbroken known inst keeps isnt is = variable_test _ _ (is_type inst.op) (inst.op == op.VARIABLE) (is_pointer_of (word_at 2 inst) (meaning_in (known (word_at 0 inst)))) isnt is keeps
 
