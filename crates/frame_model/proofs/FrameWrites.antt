@@ -95,7 +95,7 @@ one_result a b None first second = cc
 one_result a b (Some own) first second = sym (same own a first) ∙ same own b second
 
 -- an instruction defines one id
-one_definition : (insts : List Inst) (a b place : ℕ) → definition insts a ≡ Some place → definition insts b ≡ Some place → a ≡ b
+pub one_definition : (insts : List Inst) (a b place : ℕ) → definition insts a ≡ Some place → definition insts b ≡ Some place → a ≡ b
 one_definition insts a b place first second = one_result a b (result (inst_at insts place)) (gives_at insts a place first) (gives_at insts b place second)
 
 same_some : {A : Type 0} (x y : A) → Some x ≡ Some y → x ≡ y

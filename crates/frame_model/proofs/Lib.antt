@@ -2,7 +2,9 @@ pub mod CompositeResults
 pub mod FrameLimits
 pub mod FrameSizes
 pub mod FrameWrites
+pub mod GivenResults
 pub mod KnownSizes
+pub mod MemoryWrites
 pub mod PartWords
 pub mod ReadOperands
 pub mod ResultWords

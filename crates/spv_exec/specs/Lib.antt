@@ -1,11 +1,14 @@
 pub mod Accesses
+pub mod Branches
 pub mod FirstFrames
 pub mod FlatMachine
 pub mod FlatStage
 pub mod FlatValue
 pub mod ModuleFrames
 pub mod Opcodes
+pub mod Phis
 pub mod PreparedFor
 pub mod Steps
 pub mod Variables
 pub mod Views
+pub mod Walks

@@ -3,15 +3,21 @@
 
 mod accesses;
 mod block;
+mod branches;
 mod composites;
 mod constants;
+mod copies;
 mod member_starts;
 mod module_frame;
 mod operations;
+mod phis;
 mod places;
+mod results;
 mod run;
+mod stand;
 mod values;
 mod variables;
+mod walk;
 
 pub use run::run_flat;
 pub use spirv_model::{Inst, Items};
