@@ -1,5 +1,6 @@
 pub mod Accesses
 pub mod Branches
+pub mod Composites
 pub mod FirstFrames
 pub mod FlatMachine
 pub mod FlatStage
