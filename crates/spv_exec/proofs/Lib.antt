@@ -4,3 +4,5 @@ pub mod CompositeWords
 pub mod Definitions
 pub mod Filled
 pub mod PhiWords
+pub mod PlacesTo
+pub mod StartsTo

@@ -1,6 +1,7 @@
 -- Where a module's values lie in its frame, as the code keeps it, and parts of types.
-use Rattle.std.specs.Prelude.{◌≡◌, ℕ, ◌+◌, ◌^◌, ◌<◌, ◌≤◌, ◌==◌, true, ◌⊎◌, List, [], ◌∷◌, length, take, slice_index, Option, None, Some}
+use Rattle.std.specs.Prelude.{◌≡◌, ℕ, ◌+◌, ◌^◌, ◌<◌, ◌≤◌, ◌==◌, if◌then◌else◌, ◌⊎◌, List, [], ◌∷◌, length, take, slice_index, Option, None, Some}
 use Rattle.std.specs.List.{sum_by}
+use Rattle.spirv_model.specs.declared.module.Inst.{Inst}
 use Rattle.spirv_model.specs.declared.module.Words.{Words}
 use Rattle.spirv_model.specs.declared.op.TheConstants.{TYPE_STRUCT}
 use Rattle.spirv_model.specs.Operands.{words_from}
@@ -22,17 +23,31 @@ pub record AreMemoryPlaces (program : Program) (places : List ℕ) : Type 0 wher
   pub count : length places ≡ length program.insts + 1
   pub are : (place : ℕ) → place ≤ length program.insts → slice_index places place ≡ memory_place program place
 
--- the words of the members of a structure in front of one of them
+-- the types of the members of the structure that an instruction declares; none where it declares none
+abbrev pub members_in : Inst → List ℕ
+members_in inst = if inst.op == TYPE_STRUCT then words_from 1 inst else []
+
+-- the words of the members in front of one of them
 abbrev pub words_before : Program → List ℕ → ℕ → ℕ
 words_before program members index = sum_by (λ id. size_in (program.layout id)) (take index members)
 
 -- the starts of the members of each structure, which begin for the instruction at a place at its first
 pub record AreMemberStarts (program : Program) (firsts starts : List ℕ) : Type 0 where
   pub count : length firsts ≡ length program.insts
-  pub within : (place : ℕ) → place < length program.insts → (inst_at program.insts place).op == TYPE_STRUCT ≡ true
-      → slice_index firsts place + length (words_from 1 (inst_at program.insts place)) ≤ length starts
-  pub are : (place index : ℕ) → place < length program.insts → (inst_at program.insts place).op == TYPE_STRUCT ≡ true → index < length (words_from 1 (inst_at program.insts place))
-      → slice_index starts (slice_index firsts place + index) ≡ words_before program (words_from 1 (inst_at program.insts place)) index
+  pub within : (place : ℕ) → place < length program.insts → slice_index firsts place + length (members_in (inst_at program.insts place)) ≤ length starts
+  pub are : (place index : ℕ) → place < length program.insts → index < length (members_in (inst_at program.insts place))
+      → slice_index starts (slice_index firsts place + index) ≡ words_before program (members_in (inst_at program.insts place)) index
+
+-- there is a start of the member with this index, in the structure that the instruction at the place declares
+pub record HasStart (firsts starts : List ℕ) (place index : ℕ) : Type 0 where
+  pub first : place < length firsts
+  pub within : slice_index firsts place + index < length starts
+
+-- the starts of these members were put behind others
+pub record AddsStarts (program : Program) (members old new : List ℕ) : Type 0 where
+  pub count : length new ≡ length old + length members
+  pub kept : (k : ℕ) → k < length old → slice_index new k ≡ slice_index old k
+  pub are : (index : ℕ) → index < length members → slice_index new (length old + index) ≡ words_before program members index
 
 -- what the code keeps of a module
 pub record IsModuleFrame (words : Words) (frame memory firsts starts : List ℕ) : Type 0 where

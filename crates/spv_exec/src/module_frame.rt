@@ -45,14 +45,14 @@ impl<'m> Model for ModuleFrame<'m> {
 
 impl<'m> ModuleFrame<'m> {
     /// That of a module.
-    pub fn new(alloc: Global, module: &'m Module) -> Result<ModuleFrame<'m>, AllocError>
-        ensures { IfOk result (λ frame. frame ≡ module.now) }
+    pub fn new(alloc: Global, of: &'m Module) -> Result<ModuleFrame<'m>, AllocError>
+        ensures { IfOk result (λ frame. frame ≡ of.now) }
     {
-        let frame = frame_places(alloc, module)?;
-        let memory = memory_places(alloc, module)?;
-        let members = MemberStarts::new(alloc, module)?;
+        let frame = frame_places(alloc, of)?;
+        let memory = memory_places(alloc, of)?;
+        let members = MemberStarts::new(alloc, of)?;
         Ok(ModuleFrame {
-            module,
+            module: of,
             frame,
             memory,
             members,
