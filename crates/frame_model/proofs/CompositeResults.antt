@@ -36,6 +36,7 @@ use Rattle.typed_model.proofs.Layouts.{several_of, same_parts}
 use Rattle.typed_model.proofs.TypeLayouts.{own_type, components_suit}
 use Rattle.frame_model.specs.Frame.{frame_place, frame_words, in_frame}
 use Rattle.frame_model.specs.Shown.{words_at}
+use Rattle.frame_model.specs.ShownWords.{shown_at, shown_of}
 use Rattle.frame_model.specs.Written.{written}
 use Rattle.frame_model.proofs.FrameSizes.{layout_size}
 use Rattle.frame_model.proofs.PartWords.{in_frame_words, both_there, words_within, spliced, put, taken_words, inserted_words, replaced_by}
@@ -249,35 +250,34 @@ insert_words insts constant vertex frame held place [] read value has fit operan
 -- ---- OpCompositeConstruct
 
 -- the words of values are those that the frame shows of their ids
-abbrev pub shown_at : List Inst → List ℕ → Option ℕ → List ℕ
-shown_at insts frame None = []
-shown_at insts frame (Some at) = words_at frame (operand_place insts at) (operand_count insts at)
-
-shown_words : (insts : List Inst) (frame : List ℕ) (place : ℕ) (ids : List ℕ) (read : List Value) → OperandsAt insts frame place ids read → flat_map (λ id. shown_at insts frame (definition insts id)) ids ≡ flat_map (in_frame (program_of insts)) read
+shown_words : (insts : List Inst) (frame : List ℕ) (place : ℕ) (ids : List ℕ) (read : List Value) → OperandsAt insts frame place ids read → flat_map (shown_of insts frame) ids ≡ flat_map (in_frame (program_of insts)) read
 shown_words insts frame place [] [] operands = refl
 shown_words insts frame place [] (value ∷ values) operands = absurd operands
 shown_words insts frame place (id ∷ ids) [] operands = absurd operands
 shown_words insts frame place (id ∷ ids) (value ∷ values) operands =
-    let f : ℕ → List ℕ = λ id. shown_at insts frame (definition insts id) in
+    let f : ℕ → List ℕ = shown_of insts frame in
     let here : f id ≡ in_frame (program_of insts) value = ap (shown_at insts frame) operands.0.defined ∙ operands.0.stands in
     flat_map-cons f id ids ∙ (ap (λ (l : List ℕ). l ++ flat_map f ids) here ∙ (ap (λ (l : List ℕ). in_frame (program_of insts) value ++ l) (shown_words insts frame place ids values operands.1)
     ∙ sym (flat_map-cons (in_frame (program_of insts)) value values)))
 
--- each id that is defined stands in front of the result
+-- an id is defined, and stands in front of the result
+pub record IsBefore (insts : List Inst) (place id : ℕ) : Type 0 where
+  pub at : ℕ
+  pub defined : definition insts id ≡ Some at
+  pub before : operand_place insts at + operand_count insts at ≤ operand_place insts place
+
 abbrev pub AreBefore : List Inst → ℕ → List ℕ → Type 0
-AreBefore insts place ids = (k at : ℕ) → k < length ids → definition insts (slice_index ids k) ≡ Some at → operand_place insts at + operand_count insts at ≤ operand_place insts place
+AreBefore insts place ids = (k : ℕ) → k < length ids → IsBefore insts place (slice_index ids k)
 
 are_before : (insts : List Inst) (frame : List ℕ) (place : ℕ) (ids : List ℕ) (read : List Value) → OperandsAt insts frame place ids read → AreBefore insts place ids
-are_before insts frame place [] read operands k at less defined = absurd (omega (arith, less))
-are_before insts frame place (id ∷ ids) [] operands k at less defined = absurd operands
-are_before insts frame place (id ∷ ids) (value ∷ values) operands zero at less defined =
-    let o = operands.0 in
-    subst (λ (n : ℕ). operand_place insts n + operand_count insts n ≤ operand_place insts place) (same_some o.at at (sym o.defined ∙ defined)) o.before
-are_before insts frame place (id ∷ ids) (value ∷ values) operands (suc k) at less defined = are_before insts frame place ids values operands.1 k at (omega (arith, less)) defined
+are_before insts frame place [] read operands k less = absurd (omega (arith, less))
+are_before insts frame place (id ∷ ids) [] operands k less = absurd operands
+are_before insts frame place (id ∷ ids) (value ∷ values) operands zero less = let o = operands.0 in record { at = o.at; defined = o.defined; before = o.before }
+are_before insts frame place (id ∷ ids) (value ∷ values) operands (suc k) less = are_before insts frame place ids values operands.1 k (omega (arith, less))
 
 pub record ConstructAt (insts : List Inst) (frame : List ℕ) (place : ℕ) (value : Value) (inst : Inst) : Type 0 where
   pub before : AreBefore insts place (words_from 2 inst)
-  pub are : in_frame (program_of insts) value ≡ flat_map (λ id. shown_at insts frame (definition insts id)) (words_from 2 inst)
+  pub are : in_frame (program_of insts) value ≡ flat_map (shown_of insts frame) (words_from 2 inst)
 
 construct_by : (insts : List Inst) (frame : List ℕ) (place : ℕ) (type id : ℕ) (ids : List ℕ) (vector : Bool) (read : List Value) (value : Value) → OperandsAt insts frame place ids read → IsOfType (program_of insts) type value
     → ◌≡◌ {A = Option Value} (Some (constructed vector read)) (Some value) → ConstructAt insts frame place value (instruction op.COMPOSITE_CONSTRUCT (type ∷ id ∷ ids))

@@ -2,6 +2,7 @@ pub mod CompositeResults
 pub mod FrameLimits
 pub mod FrameSizes
 pub mod FrameWrites
+pub mod GivenComposites
 pub mod GivenResults
 pub mod KnownSizes
 pub mod MemoryWrites

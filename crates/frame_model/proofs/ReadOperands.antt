@@ -139,12 +139,3 @@ composite_operands words v frame held place value g is =
     let seen = uses_seen intervals words.insts place (valid_seen words v place g.within) (no_phi inst.op is) in
     operands_at words.insts intervals frame g.values place (read_ids inst.op 0 inst.words) g.read g.within g.shows
     (composite_reads (IsSeen intervals words.insts place) (typing_here words.insts (is_vertex (facts_of words.insts))) 0 inst (shaped_here words v place g.within) (composite_fit words v place g.within is) seen) g.are
-
--- ---- results
-
--- a result takes the words that the frame has for it
-pub given_size : (words : Words) → IsValidList words → (frame : List ℕ) (held : Memory) (place : ℕ) (value : Value) → GivesAt (program_of words.insts) frame held place value → has_result_class (class_of (inst_at words.insts place).op) ≡ true
-    → (inst_at words.insts place).op == op.STORE ≡ false → length (in_frame (program_of words.insts) value) ≡ frame_words (program_of words.insts) (inst_at words.insts place)
-unfolding program_of
-given_size words v frame held place value g gives isnt =
-    value_size (program_of words.insts) (valid_types words v.sound) (word_at 0 (inst_at words.insts place)) value g.typed ∙ sym (result_words words v place g.within gives isnt)

@@ -1,3 +1,4 @@
 pub mod Frame
 pub mod Shown
+pub mod ShownWords
 pub mod Written

@@ -1,8 +1,13 @@
 pub mod BlockRuns
 pub mod BlockSteps
+pub mod CompositeRuns
 pub mod CompositeWords
 pub mod Definitions
 pub mod Filled
+pub mod GatheredWords
+pub mod PartStarts
 pub mod PhiWords
+pub mod PickedWords
 pub mod PlacesTo
+pub mod SplitWords
 pub mod StartsTo

@@ -9,7 +9,8 @@ ghost use Rattle.stage_model.specs.Program.{program_of};
 ghost use Rattle.frame_model.specs.Frame.{frame_place, frame_words, in_frame};
 ghost use Rattle.frame_model.specs.Written.{GivesAt, GivesSome, written};
 ghost use Rattle.spirv_model.specs.declared.op.TheConstants as op;
-ghost use Rattle.spv_exec.specs.Composites.{shown_of, picked_of};
+ghost use Rattle.frame_model.specs.ShownWords.{IsShown, shown_of};
+ghost use Rattle.spv_exec.specs.Composites.{picked_of};
 
 use crate::copies::copy_words;
 use crate::module_frame::ModuleFrame;
@@ -22,10 +23,10 @@ pub fn run_undef(of: &ModuleFrame<'_>, place: usize, frame: &mut [u32])
     ensures { (held : Memory) (value : Value) → GivesAt (program_of of.now.insts) frame.old held place value
         → frame.new ≡ written frame.old (frame_place (program_of of.now.insts) place) (in_frame (program_of of.now.insts) value) }
 {
-    let at = of.frame_place(place);
-    for k in 0..of.frame_words(place) {
-        frame[at + k] = 0;
-    }
+    let _module = of.module();
+    let count = of.frame_words(place);
+    let (_, to) = frame.split_at_mut(of.frame_place(place));
+    clear_words(count, to);
 }
 
 /// OpVectorShuffle.
@@ -35,6 +36,7 @@ pub fn run_shuffle(of: &ModuleFrame<'_>, place: usize, frame: &mut [u32])
     ensures { (held : Memory) (value : Value) → GivesAt (program_of of.now.insts) frame.old held place value
         → frame.new ≡ written frame.old (frame_place (program_of of.now.insts) place) (in_frame (program_of of.now.insts) value) }
 {
+    let _module = of.module();
     let inst = of.inst(place);
     let vectors = Vectors {
         first: of.operand(inst.word(2)),
@@ -52,6 +54,7 @@ pub fn run_construct(of: &ModuleFrame<'_>, place: usize, frame: &mut [u32])
     ensures { (held : Memory) (value : Value) → GivesAt (program_of of.now.insts) frame.old held place value
         → frame.new ≡ written frame.old (frame_place (program_of of.now.insts) place) (in_frame (program_of of.now.insts) value) }
 {
+    let _module = of.module();
     let (front, to) = frame.split_at_mut(of.frame_place(place));
     gather_words(of, front, of.inst(place).words_from(2), to);
 }
@@ -63,12 +66,14 @@ pub fn run_extract(of: &ModuleFrame<'_>, place: usize, frame: &mut [u32])
     ensures { (held : Memory) (value : Value) → GivesAt (program_of of.now.insts) frame.old held place value
         → frame.new ≡ written frame.old (frame_place (program_of of.now.insts) place) (in_frame (program_of of.now.insts) value) }
 {
+    let _module = of.module();
     let inst = of.inst(place);
     let whole = inst.word(2);
-    let at = of.operand(whole) + part_start(of, type_of(of, whole), inst.words_from(3));
-    let count = of.frame_words(place);
-    let (front, to) = frame.split_at_mut(of.frame_place(place));
-    copy_words(front, at, count, to, 0);
+    let at = of.frame_place(place);
+    let start = part_start(of, type_of(of, whole), inst.words_from(3));
+    let from = of.operand(whole) + start;
+    let (front, to) = frame.split_at_mut(at);
+    copy_words(front, from, of.frame_words(place), to, 0);
 }
 
 /// OpCompositeInsert.
@@ -78,10 +83,12 @@ pub fn run_insert(of: &ModuleFrame<'_>, place: usize, frame: &mut [u32])
     ensures { (held : Memory) (value : Value) → GivesAt (program_of of.now.insts) frame.old held place value
         → frame.new ≡ written frame.old (frame_place (program_of of.now.insts) place) (in_frame (program_of of.now.insts) value) }
 {
+    let _module = of.module();
     let inst = of.inst(place);
     let (object, whole) = (inst.word(2), inst.word(3));
+    let at = of.frame_place(place);
     let start = part_start(of, type_of(of, whole), inst.words_from(4));
-    let (front, to) = frame.split_at_mut(of.frame_place(place));
+    let (front, to) = frame.split_at_mut(at);
     copy_words(front, of.operand(whole), operand_words(of, whole), to, 0);
     copy_words(front, of.operand(object), operand_words(of, object), to, start);
 }
@@ -124,19 +131,29 @@ fn part_start(of: &ModuleFrame<'_>, ty: u32, literals: &[u32]) -> usize
     let mut start: usize = 0;
     let mut whole = ty;
     for literal in literals {
-        if let Some(part) = of.part(whole, *literal) {
-            start = start.wrapping_add(part.start as usize);
-            whole = part.ty;
-        }
+        let Some(part) = of.part(whole, *literal) else {
+            return 0;
+        };
+        start = start.wrapping_add(part.start as usize);
+        whole = part.ty;
     }
     start
+}
+
+/// Writes so many zeros.
+fn clear_words(count: usize, to: &mut [u32])
+    requires { count ≤ length to.old }
+    ensures { to.new ≡ written to.old 0 (replicate count 0) }
+{
+    for k in 0..count {
+        to[k] = 0;
+    }
 }
 
 /// Writes the words of the values of ids one after another.
 fn gather_words(of: &ModuleFrame<'_>, front: &[u32], ids: &[u32], to: &mut [u32])
     requires fits { length (flat_map (shown_of of.now.insts front.now) ids.now) ≤ length to.old }
-    requires there { (k place : ℕ) → k < length ids.now → definition of.now.insts (slice_index ids.now k) ≡ Some place
-        → frame_place (program_of of.now.insts) place + frame_words (program_of of.now.insts) (inst_at of.now.insts place) ≤ length front.now }
+    requires there { (k : ℕ) → k < length ids.now → IsShown of.now.insts front.now (slice_index ids.now k) }
     ensures { to.new ≡ written to.old 0 (flat_map (shown_of of.now.insts front.now) ids.now) }
 {
     let mut at = 0;
