@@ -50,18 +50,18 @@ pub record Extracts (frame : List ℕ) (from count at : ℕ) (words : List ℕ) 
   pub room : at + count ≤ length frame
   pub are : words ≡ words_at frame from count
 
-pub extracts : (insts : List Inst) (frame : List ℕ) (place : ℕ) (value : Value) (inst : Inst) → ExtractAt insts frame place value inst → Room insts frame place value → (id type operand start at : ℕ) (literals : List ℕ)
-    → id ≡ word_at 2 inst → literals ≡ words_from 3 inst → at ≡ frame_place (program_of insts) place → at < 2 ^ 64 → Asked insts id operand → Started insts id type literals start
-    → Extracts frame (operand + start) (frame_words (program_of insts) (inst_at insts place)) at (in_frame (program_of insts) value)
-extracts insts frame place value inst x r id type operand start at literals id_is literals_is at_is less asked s =
-    let fits = x.fits in let before = x.before in let count = x.count in let size = r.size in let room = r.fits in
+pub extracts : (insts : List Inst) (frame : List ℕ) (place : ℕ) (value : Value) (inst : Inst) → ExtractAt insts frame place value inst → Room insts frame place value → (id type operand start count at : ℕ) (literals : List ℕ)
+    → id ≡ word_at 2 inst → literals ≡ words_from 3 inst → at ≡ frame_place (program_of insts) place → at < 2 ^ 64 → count ≡ frame_words (program_of insts) (inst_at insts place) → Asked insts id operand → Started insts id type literals start
+    → Extracts frame (operand + start) count at (in_frame (program_of insts) value)
+extracts insts frame place value inst x r id type operand start count at literals id_is literals_is at_is less own_count asked s =
+    let fits = x.fits in let before = x.before in let part_count = x.count in let size = r.size in let room = r.fits in
     let operand_is = asked.place x.at (ap (definition insts) id_is ∙ x.defined) in
     let start_is = started insts id type literals start s x.type x.layout x.part x.start (ap (λ (i : ℕ). type_id (meaning insts i)) id_is ∙ x.typed) x.known (omega (arith, less, at_is, fits, before)) (ap (part_along x.layout) literals_is ∙ x.found) in
     let from_is : operand + start ≡ frame_place (program_of insts) x.at + x.start = omega (arith, operand_is, start_is) in
-    let count_is : frame_words (program_of insts) (inst_at insts place) ≡ size_of x.part = sym size ∙ count in
+    let count_is : count ≡ size_of x.part = own_count ∙ (sym size ∙ part_count) in
     record {
       before = omega (arith, from_is, count_is, fits, before, at_is);
-      room = omega (arith, room, at_is);
+      room = omega (arith, room, at_is, own_count);
       are = x.are ∙ (ap (λ (n : ℕ). words_at frame n (size_of x.part)) (sym from_is) ∙ ap (words_at frame (operand + start)) (sym count_is));
     }
 

@@ -22,7 +22,7 @@ pub split_written : (frame front back to : List ℕ) (at : ℕ) (words : List �
 split_written frame front back to at words s is =
     ap (λ (l : List ℕ). front ++ l) (is ∙ ap (λ (l : List ℕ). written l 0 words) s.back_is) ∙ (ap (λ (l : List ℕ). l ++ written (drop at frame) 0 words) s.front_is ∙ written_front frame at words)
 
-split_lengths : (frame front back : List ℕ) (at : ℕ) → IsSplit frame front back at → (length front ≡ at) × (length back + at ≡ length frame)
+pub split_lengths : (frame front back : List ℕ) (at : ℕ) → IsSplit frame front back at → (length front ≡ at) × (length back + at ≡ length frame)
 split_lengths frame front back at s =
     let f = ap length s.front_is ∙ length-take-le at frame s.within in let b = ap length s.back_is ∙ length-drop at frame in let w = s.within in
     (f, omega (arith, b, w))

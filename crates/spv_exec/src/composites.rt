@@ -38,10 +38,11 @@ pub fn run_shuffle(of: &ModuleFrame<'_>, place: usize, frame: &mut [u32])
 {
     let _module = of.module();
     let inst = of.inst(place);
+    let (first, second) = (inst.word(2), inst.word(3));
     let vectors = Vectors {
-        first: of.operand(inst.word(2)),
-        count: operand_words(of, inst.word(2)),
-        second: of.operand(inst.word(3)),
+        first: of.operand(first),
+        count: operand_words(of, first),
+        second: of.operand(second),
     };
     let (front, to) = frame.split_at_mut(of.frame_place(place));
     pick_words(front, vectors, inst.words_from(4), to);
