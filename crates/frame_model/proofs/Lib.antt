@@ -1,4 +1,5 @@
 pub mod CompositeResults
+pub mod DeclaredStructs
 pub mod FrameLimits
 pub mod FrameSizes
 pub mod FrameWrites
@@ -6,8 +7,10 @@ pub mod GivenComposites
 pub mod GivenResults
 pub mod KnownSizes
 pub mod MemoryWrites
+pub mod PartPlaces
 pub mod PartWords
 pub mod ReadOperands
 pub mod ResultWords
 pub mod VectorWords
 pub mod WrittenWords
+pub mod ZeroId

@@ -5,6 +5,7 @@ pub mod CompositeWords
 pub mod Definitions
 pub mod Filled
 pub mod GatheredWords
+pub mod PartAnswers
 pub mod PartStarts
 pub mod PhiWords
 pub mod PickedWords

@@ -1,5 +1,5 @@
 -- Places that are put into a list one behind another.
-use Rattle.std.proofs.Common.{◌≡◌, ℕ, suc, ◌+◌, ◌<◌, ◌≤◌, ◌^◌, inl, inr, List, [], ◌∷◌, ◌++◌, length, get_or, slice_index, refl, ap, sym, ◌∙◌, subst, arith, length-append}
+use Rattle.std.proofs.Common.{◌≡◌, ℕ, suc, ◌+◌, ◌<◌, ◌≤◌, ◌^◌, inl, inr, List, [], ◌∷◌, ◌++◌, length, get_or, slice_index, refl, ap, sym, ◌∙◌, arith, length-append}
 use Rattle.std.proofs.Math.ListN.{get_or-append}
 use Rattle.std.proofs.Math.Seq.{get_or-append_seam}
 use Rattle.std.proofs.lemmas.Bool.{cases_lt}
@@ -50,6 +50,10 @@ read_there of list insts item place count same within is known =
 pub frame_first : (words : Words) → AreTo (frame_place (program_of words.insts)) (0 ∷ []) 0 0
 frame_first words = first_place (frame_place (program_of words.insts)) (frame_place_first (program_of words.insts))
 
+pub frame_step : (insts : List Inst) (place : ℕ) → place < length insts → frame_place (program_of insts) (place + 1) ≡ frame_place (program_of insts) place + frame_words (program_of insts) (inst_at insts place)
+unfolding program_of
+frame_step insts place within = let e : place + 1 ≡ suc place = omega arith in ap (frame_place (program_of insts)) e ∙ frame_place_next (program_of insts) place within
+
 pub frame_next : (words : Words) (places : List ℕ) (last place count : ℕ) → place < length words.insts → count ≡ frame_words (program_of words.insts) (inst_at words.insts place) → AreTo (frame_place (program_of words.insts)) places last place
     → AreTo (frame_place (program_of words.insts)) (places ++ (last + count) ∷ []) (last + count) (place + 1)
 unfolding program_of
@@ -69,14 +73,17 @@ frame_room words places last place count v within is to =
     let l = to.is in
     omega (arith, few, more, l, is)
 
-pub frame_all : (words : Words) (places : List ℕ) (last place : ℕ) → length words.insts ≡ place → AreTo (frame_place (program_of words.insts)) places last place → AreFramePlaces (program_of words.insts) places
-unfolding program_of
+pub frame_all : (words : Words) (places : List ℕ) (last place : ℕ) → length words.insts ≡ place → AreTo (frame_place (program_of words.insts)) places last place → AreFramePlaces words.insts places
 frame_all words places last place all to = record { count = let c = to.count in omega (arith, c, all); are = λ k less. to.are k (omega (arith, less, all)) }
 
 -- ---- in the memory
 
 pub memory_first : (words : Words) → AreTo (memory_place (program_of words.insts)) (0 ∷ []) 0 0
 memory_first words = first_place (memory_place (program_of words.insts)) (memory_place_first (program_of words.insts))
+
+pub memory_step : (insts : List Inst) (place : ℕ) → place < length insts → memory_place (program_of insts) (place + 1) ≡ memory_place (program_of insts) place + variable_words (program_of insts) (inst_at insts place)
+unfolding program_of
+memory_step insts place within = let e : place + 1 ≡ suc place = omega arith in ap (memory_place (program_of insts)) e ∙ memory_place_next (program_of insts) place within
 
 pub memory_next : (words : Words) (places : List ℕ) (last place count : ℕ) → place < length words.insts → count ≡ variable_words (program_of words.insts) (inst_at words.insts place) → AreTo (memory_place (program_of words.insts)) places last place
     → AreTo (memory_place (program_of words.insts)) (places ++ (last + count) ∷ []) (last + count) (place + 1)
@@ -97,6 +104,23 @@ memory_room words places last place count v within is to =
     let l = to.is in
     omega (arith, few, more, l, is)
 
-pub memory_all : (words : Words) (places : List ℕ) (last place : ℕ) → length words.insts ≡ place → AreTo (memory_place (program_of words.insts)) places last place → AreMemoryPlaces (program_of words.insts) places
-unfolding program_of
+pub memory_all : (words : Words) (places : List ℕ) (last place : ℕ) → length words.insts ≡ place → AreTo (memory_place (program_of words.insts)) places last place → AreMemoryPlaces words.insts places
 memory_all words places last place all to = record { count = let c = to.count in omega (arith, c, all); are = λ k less. to.are k (omega (arith, less, all)) }
+
+-- a place isn't above the next
+pub frame_rises : (insts : List Inst) (places : List ℕ) (place next own : ℕ) → AreFramePlaces insts places → place < length insts → next ≡ get_or places (place + 1) next → own ≡ get_or places place own → own ≤ next
+frame_rises insts places place next own all within next_is own_is =
+    let c = all.count in
+    let e : next ≡ frame_place (program_of insts) (place + 1) = next_is ∙ (get_or_default places (place + 1) next 0 (omega (arith, c, within)) ∙ all.are (place + 1) (omega (arith, within))) in
+    let f : own ≡ frame_place (program_of insts) place = own_is ∙ (get_or_default places place own 0 (omega (arith, c, within)) ∙ all.are place (omega (arith, within))) in
+    let s = frame_step insts place within in
+    omega (arith, e, f, s)
+
+-- a place isn't above the next
+pub memory_rises : (insts : List Inst) (places : List ℕ) (place next own : ℕ) → AreMemoryPlaces insts places → place < length insts → next ≡ get_or places (place + 1) next → own ≡ get_or places place own → own ≤ next
+memory_rises insts places place next own all within next_is own_is =
+    let c = all.count in
+    let e : next ≡ memory_place (program_of insts) (place + 1) = next_is ∙ (get_or_default places (place + 1) next 0 (omega (arith, c, within)) ∙ all.are (place + 1) (omega (arith, within))) in
+    let f : own ≡ memory_place (program_of insts) place = own_is ∙ (get_or_default places place own 0 (omega (arith, c, within)) ∙ all.are place (omega (arith, within))) in
+    let s = memory_step insts place within in
+    omega (arith, e, f, s)

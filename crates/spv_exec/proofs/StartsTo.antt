@@ -1,10 +1,10 @@
 -- The starts of members that are put into a list one behind another.
-use Rattle.std.proofs.Common.{◌≡◌, ℕ, suc, ◌+◌, ◌*◌, ◌<◌, ◌≤◌, ◌==◌, ◌^◌, inl, inr, Bool, true, false, if◌then◌else◌, List, [], ◌∷◌, ◌++◌, length, take, drop, get_or, slice_index, refl, ap, sym, ◌∙◌, subst, arith, length-append, length-drop}
+use Rattle.std.proofs.Common.{◌≡◌, ℕ, ◌+◌, ◌*◌, ◌<◌, ◌≤◌, ◌==◌, inl, inr, Bool, true, false, if◌then◌else◌, List, [], ◌∷◌, ◌++◌, length, take, get_or, slice_index, refl, ap, ◌∙◌, subst, arith, length-append, length-drop}
 use Rattle.std.specs.List.{sum_by}
 use Rattle.std.proofs.Math.ListN.{get_or-append}
 use Rattle.std.proofs.Math.Seq.{get_or-append_seam}
 use Rattle.std.proofs.lemmas.Bool.{cases_lt}
-use Rattle.std.proofs.lemmas.List.{get_or_default, take_all}
+use Rattle.std.proofs.lemmas.List.{get_or_default}
 use Rattle.std.proofs.lemmas.List.Sums.{sum_by_more, sum_by_more_le, sum_by-take-le}
 use Rattle.limits.specs.declared.TheConstants.{TYPE_WORDS, MODULE_WORDS}
 use Rattle.spirv_model.specs.declared.module.Inst.{Inst}
@@ -123,7 +123,7 @@ pub starts_next : (words : Words) (firsts starts more : List ℕ) (place : ℕ) 
 unfolding program_of
 starts_next words firsts starts more place inside adds to = step (program_of words.insts) firsts starts more place inside adds to
 
-pub starts_all : (words : Words) (firsts starts : List ℕ) (place : ℕ) → place ≡ length words.insts → StartsTo (program_of words.insts) firsts starts place → AreMemberStarts (program_of words.insts) firsts starts
+pub starts_all : (words : Words) (firsts starts : List ℕ) (place : ℕ) → place ≡ length words.insts → StartsTo (program_of words.insts) firsts starts place → AreMemberStarts words.insts firsts starts
 unfolding program_of
 starts_all words firsts starts place all to = record {
   count = to.count ∙ all;

@@ -21,7 +21,7 @@ impl MemberStarts {
     /// Those of a module.
     pub fn new(alloc: Global, of: &Module) -> Result<MemberStarts, AllocError>
         ensures { IfOk result (λ made.
-            AreMemberStarts (program_of of.now.insts) made.firsts.items made.starts.items) }
+            AreMemberStarts of.now.insts made.firsts.items made.starts.items) }
     {
         let insts = of.insts();
         let mut firsts = Vec::with_capacity(alloc, insts.len())?;

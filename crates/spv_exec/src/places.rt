@@ -2,6 +2,7 @@
 ghost use Rattle.std.specs.Prelude.{◌≡◌, ◌<◌, ◌≤◌, ◌^◌, length, IfOk};
 ghost use Rattle.limits.specs.declared.TheConstants.{TYPE_WORDS};
 ghost use Rattle.check_model.specs.Typing.{type_id};
+ghost use Rattle.check_model.specs.Validity.{IsValidList};
 ghost use Rattle.valid_model.specs.Meanings.{meaning};
 ghost use Rattle.stage_model.specs.Program.{held_layout, program_of};
 ghost use Rattle.stage_model.specs.Stage.{size_in};
@@ -16,7 +17,9 @@ use valid_model::{Meaning, Shape};
 
 /// Where each result begins in the frame, and the frame's length at the end.
 pub fn frame_places(alloc: Global, of: &Module) -> Result<Vec<u32>, AllocError>
-    ensures { IfOk result (λ places. AreFramePlaces (program_of of.now.insts) places.items) }
+    ensures are { IfOk result (λ places. AreFramePlaces of.now.insts places.items) }
+    ensures valid { IsValidList of.now }
+    ensures few { length of.now.insts < 2 ^ 32 }
 {
     let insts = of.insts();
     let mut places = Vec::with_capacity(alloc, insts.len() + 1)?;
@@ -31,7 +34,7 @@ pub fn frame_places(alloc: Global, of: &Module) -> Result<Vec<u32>, AllocError>
 
 /// Where each variable begins in the memory, and the memory's length at the end.
 pub fn memory_places(alloc: Global, of: &Module) -> Result<Vec<u32>, AllocError>
-    ensures { IfOk result (λ places. AreMemoryPlaces (program_of of.now.insts) places.items) }
+    ensures { IfOk result (λ places. AreMemoryPlaces of.now.insts places.items) }
 {
     let insts = of.insts();
     let mut places = Vec::with_capacity(alloc, insts.len() + 1)?;

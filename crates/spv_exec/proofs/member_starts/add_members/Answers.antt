@@ -1,4 +1,4 @@
-use Rattle.std.proofs.Common.{◌≡◌, length, arith}
+use Rattle.std.proofs.Common.{arith}
 use Rattle.stage_model.specs.Program.{program_of}
 use Rattle.spv_exec.proofs.StartsTo.{members_all}
 use Rattle.spv_exec.proofs.member_starts.add_members.Goals as goal

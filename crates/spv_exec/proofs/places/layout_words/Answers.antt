@@ -1,4 +1,4 @@
-use Rattle.std.proofs.Common.{◌≡◌, ◌∙◌, subst, sym, ap, ℕ, ◌≤◌}
+use Rattle.std.proofs.Common.{◌∙◌, subst, sym, ℕ, ◌≤◌}
 use Rattle.limits.specs.declared.TheConstants.{TYPE_WORDS}
 use Rattle.frame_model.proofs.KnownSizes.{known_size, known_few}
 use Rattle.spv_exec.proofs.places.layout_words.Goals as goal

@@ -14,21 +14,21 @@ loop-inst-init c = record {
 pub overflow_add-next : goal.overflow_add-next
 overflow_add-next c =
     let at =
-        read_there (variable_words (program_of c.args.of.now.insts)) c.insts-insts.result.now c.args.of.now.insts c.inst-item.result c.loop-inst.inst-index c.variable_words-next.result c.loop-inst.invariant.same c.loop-inst-test.true c.inst-item.is
-        c.variable_words-next.ensures in
+    read_there (variable_words (program_of c.args.of.now.insts)) c.insts-insts.result.now c.args.of.now.insts c.inst-item.result c.loop-inst.inst-index c.variable_words-next.result c.loop-inst.invariant.same c.loop-inst-test.true c.inst-item.is
+    c.variable_words-next.ensures in
     let room = memory_room c.args.of.now c.loop-inst.places.items c.loop-inst.next c.loop-inst.inst-index c.variable_words-next.result c.loop-inst.invariant.valid at.0 at.1 c.loop-inst.invariant.to in
     omega (arith, room)
 
 pub loop-inst-preserved : goal.loop-inst-preserved
 loop-inst-preserved c =
     let at =
-        read_there (variable_words (program_of c.args.of.now.insts)) c.insts-insts.result.now c.args.of.now.insts c.inst-item.result c.loop-inst.inst-index c.variable_words-next.result c.loop-inst.invariant.same c.loop-inst-test.true c.inst-item.is
-        c.variable_words-next.ensures in
+    read_there (variable_words (program_of c.args.of.now.insts)) c.insts-insts.result.now c.args.of.now.insts c.inst-item.result c.loop-inst.inst-index c.variable_words-next.result c.loop-inst.invariant.same c.loop-inst-test.true c.inst-item.is
+    c.variable_words-next.ensures in
     record {
       same = c.loop-inst.invariant.same;
       valid = c.loop-inst.invariant.valid;
       to = subst (λ (l : List ℕ). AreTo (memory_place (program_of c.args.of.now.insts)) l (c.loop-inst.next + c.variable_words-next.result) (c.loop-inst.inst-index + 1)) (sym c.in_ok-push-2.ensures.items)
-      (memory_next c.args.of.now c.loop-inst.places.items c.loop-inst.next c.loop-inst.inst-index c.variable_words-next.result at.0 at.1 c.loop-inst.invariant.to);
+          (memory_next c.args.of.now c.loop-inst.places.items c.loop-inst.next c.loop-inst.inst-index c.variable_words-next.result at.0 at.1 c.loop-inst.invariant.to);
     }
 
 pub returns : goal.returns
