@@ -1,10 +1,9 @@
 -- What instructions that make composites or take them apart copy, in numbers of words.
-use Rattle.std.proofs.Common.{◌≡◌, ℕ, ◌+◌, ◌<◌, ◌≤◌, ◌^◌, ◌==◌, ◌||◌, nat_lt, true, List, [], ◌++◌, length, map, take, drop, replicate, refl, ap, sym, ◌∙◌, subst, arith, Option, Some}
+use Rattle.std.proofs.Common.{◌≡◌, ℕ, ◌+◌, ◌<◌, ◌≤◌, ◌^◌, ◌==◌, ◌||◌, nat_lt, true, List, ◌++◌, length, map, ap, sym, ◌∙◌, subst, arith, Some}
 use Rattle.std.proofs.lemmas.List.{length-map}
 use Rattle.std.specs.Prelude.{slice_index}
 use Rattle.std.specs.List.{flat_map, list_all}
 use Rattle.spirv_model.specs.declared.module.Inst.{Inst}
-use Rattle.spirv_model.specs.declared.op.TheConstants as op
 use Rattle.spirv_model.specs.Operands.{word_at, words_from}
 use Rattle.valid_model.specs.Definitions.{definition, inst_at}
 use Rattle.valid_model.specs.Meanings.{meaning}
@@ -19,12 +18,11 @@ use Rattle.frame_model.specs.Written.{written}
 use Rattle.frame_model.proofs.CompositeResults.{ExtractAt, InsertAt, ConstructAt, ShuffleAt, AreBefore}
 use Rattle.frame_model.proofs.GivenComposites.{Room}
 use Rattle.frame_model.proofs.VectorWords.{picked}
-use Rattle.frame_model.proofs.WrittenWords.{length_words_at}
 use Rattle.spv_exec.specs.declared.composites.Vectors.{Vectors}
 use Rattle.spv_exec.specs.Composites.{picked_of}
 use Rattle.spv_exec.proofs.GatheredWords.{same_gathered, shown_front}
 use Rattle.spv_exec.proofs.PickedWords.{picked_front}
-use Rattle.spv_exec.proofs.SplitWords.{IsSplit, split_written, split_lengths}
+use Rattle.spv_exec.proofs.SplitWords.{IsSplit, split_lengths}
 
 -- what is asked of an operand: where its value begins, how many words it has, and its type
 pub record Asked (insts : List Inst) (id operand : ℕ) : Type 0 where
@@ -112,8 +110,8 @@ gathers insts frame front back place value inst x r at ids ids_are at_is s =
     let size = r.size in let room = r.fits in
     let before : AreBefore insts place ids = subst (AreBefore insts place) (sym ids_are) x.before in
     let are : flat_map (shown_of insts front) ids ≡ in_frame (program_of insts) value =
-        ap (λ (l : List ℕ). flat_map (shown_of insts l) ids) s.front_is ∙ (same_gathered insts frame place at ids (sym at_is) s.within before
-        ∙ (ap (flat_map (shown_of insts frame)) ids_are ∙ sym x.are)) in
+    ap (λ (l : List ℕ). flat_map (shown_of insts l) ids) s.front_is ∙ (same_gathered insts frame place at ids (sym at_is) s.within before
+    ∙ (ap (flat_map (shown_of insts frame)) ids_are ∙ sym x.are)) in
     record {
       fits = (let e = ap length are in omega (arith, e, size, room, b, at_is));
       there = shown_front insts front place ids (sym at_is ∙ sym f) before;
@@ -138,14 +136,14 @@ picks insts frame front back place value inst x r first second at of literals fi
     let place_is = first_asked.place x.first first_there in let count_is = count_asked.words x.first first_there in let other_is = second_asked.place x.second second_there in
     let count : ℕ = frame_words program (inst_at insts x.second) in
     let fit : list_all (λ literal. nat_lt literal (of.count + count) || (literal == no_component)) literals ≡ true =
-        ap (list_all (λ literal. nat_lt literal (of.count + count) || (literal == no_component))) literals_are ∙ subst (λ (n : ℕ). list_all (λ literal. nat_lt literal (n + count) || (literal == no_component)) (words_from 4 inst) ≡ true) (sym count_is) x.fit in
+    ap (list_all (λ literal. nat_lt literal (of.count + count) || (literal == no_component))) literals_are ∙ subst (λ (n : ℕ). list_all (λ literal. nat_lt literal (n + count) || (literal == no_component)) (words_from 4 inst) ≡ true) (sym count_is) x.fit in
     let front_picks = picked_front frame at of count literals s.within (omega (arith, place_is, count_is, before, at_is)) (omega (arith, other_is, also, at_is)) fit in
     let vectors : words_at frame of.first of.count ++ words_at frame of.second count ≡ words_at frame (frame_place program x.first) (frame_words program (inst_at insts x.first)) ++ words_at frame (frame_place program x.second) count =
-        ap (λ (n : ℕ). words_at frame n of.count ++ words_at frame of.second count) place_is ∙ (ap (λ (n : ℕ). words_at frame (frame_place program x.first) n ++ words_at frame of.second count) count_is
-        ∙ ap (λ (n : ℕ). words_at frame (frame_place program x.first) (frame_words program (inst_at insts x.first)) ++ words_at frame n count) other_is) in
+    ap (λ (n : ℕ). words_at frame n of.count ++ words_at frame of.second count) place_is ∙ (ap (λ (n : ℕ). words_at frame (frame_place program x.first) n ++ words_at frame of.second count) count_is
+    ∙ ap (λ (n : ℕ). words_at frame (frame_place program x.first) (frame_words program (inst_at insts x.first)) ++ words_at frame n count) other_is) in
     let are : map (picked_of front of) literals ≡ in_frame program value =
-        ap (λ (l : List ℕ). map (picked_of l of) literals) s.front_is ∙ (front_picks ∙ (ap (λ (l : List ℕ). map (picked l) literals) vectors
-        ∙ (ap (map (picked (words_at frame (frame_place program x.first) (frame_words program (inst_at insts x.first)) ++ words_at frame (frame_place program x.second) count))) literals_are ∙ sym x.are))) in
+    ap (λ (l : List ℕ). map (picked_of l of) literals) s.front_is ∙ (front_picks ∙ (ap (λ (l : List ℕ). map (picked l) literals) vectors
+    ∙ (ap (map (picked (words_at frame (frame_place program x.first) (frame_words program (inst_at insts x.first)) ++ words_at frame (frame_place program x.second) count))) literals_are ∙ sym x.are))) in
     record {
       fits = (let e = ap length are in let m = length-map literals (picked_of front of) in omega (arith, e, m, size, room, b, at_is));
       are = are;

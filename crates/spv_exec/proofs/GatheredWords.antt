@@ -1,8 +1,8 @@
 -- The words of the values of ids that are written one after another.
-use Rattle.std.proofs.Common.{◌≡◌, ℕ, zero, suc, ◌+◌, ◌<◌, ◌≤◌, List, [], ◌∷◌, ◌++◌, length, take, drop, slice_index, refl, ap, sym, ◌∙◌, subst, arith, length-append, Option, None, Some}
+use Rattle.std.proofs.Common.{◌≡◌, ℕ, suc, ◌+◌, ◌<◌, ◌≤◌, List, [], ◌∷◌, ◌++◌, length, take, slice_index, refl, ap, sym, ◌∙◌, arith, length-append, Some}
 use Rattle.std.specs.List.{flat_map}
 use Rattle.std.proofs.lemmas.Grind.{flat_map-append}
-use Rattle.std.proofs.lemmas.List.{append-nil, take_all, take_more}
+use Rattle.std.proofs.lemmas.List.{append-nil, take_more}
 use Rattle.std.proofs.lemmas.List.Concat.{flat_map-cons}
 use Rattle.std.proofs.lemmas.List.Folds.{length-flat_map-take}
 use Rattle.spirv_model.specs.declared.module.Inst.{Inst}
@@ -12,7 +12,7 @@ use Rattle.frame_model.specs.Frame.{frame_place, frame_words}
 use Rattle.frame_model.specs.Shown.{words_at}
 use Rattle.frame_model.specs.ShownWords.{IsShown, shown_at, shown_of}
 use Rattle.frame_model.specs.Written.{written}
-use Rattle.frame_model.proofs.CompositeResults.{IsBefore, AreBefore}
+use Rattle.frame_model.proofs.CompositeResults.{AreBefore}
 use Rattle.frame_model.proofs.WrittenWords.{length_words_at, length_written, written_none, written_both}
 use Rattle.spv_exec.proofs.SplitWords.{front_words}
 
@@ -70,7 +70,7 @@ gathered_more insts front ids before to k at from count new g less c room copied
     let n = next_room insts front ids k less in let p = g.place in let l = w.long in let stands = w.fits in
     let one : flat_map f (word ∷ []) ≡ f word = flat_map-cons f word [] ∙ append-nil (f word) in
     let more : first_words insts front ids (k + 1) ≡ first_words insts front ids k ++ f word =
-        ap (flat_map f) (take_more ids k 0 less) ∙ (flat_map-append f (take k ids) (word ∷ []) ∙ ap (λ (l : List ℕ). first_words insts front ids k ++ l) one) in
+    ap (flat_map f) (take_more ids k 0 less) ∙ (flat_map-append f (take k ids) (word ∷ []) ∙ ap (λ (l : List ℕ). first_words insts front ids k ++ l) one) in
     let long : length to ≡ length before = ap length g.are ∙ length_written before (first_words insts front ids k) 0 (omega (arith, n, room)) in
     let is = copied stands (omega (arith, p, l, n, room, long)) in
     record {
@@ -87,7 +87,7 @@ same_gathered insts frame place at (id ∷ ids) is room before =
     let b = before 0 (omega arith) in let fits = b.before in
     let d : (l : List ℕ) → shown_of insts l id ≡ words_at l (frame_place (program_of insts) b.at) (frame_words (program_of insts) (inst_at insts b.at)) = λ l. ap (shown_at insts l) b.defined in
     let here : shown_of insts (take at frame) id ≡ shown_of insts frame id =
-        d (take at frame) ∙ (front_words frame at (frame_place (program_of insts) b.at) (frame_words (program_of insts) (inst_at insts b.at)) (omega (arith, fits, is)) ∙ sym (d frame)) in
+    d (take at frame) ∙ (front_words frame at (frame_place (program_of insts) b.at) (frame_words (program_of insts) (inst_at insts b.at)) (omega (arith, fits, is)) ∙ sym (d frame)) in
     let rest = same_gathered insts frame place at ids is room (λ k less. before (suc k) (omega (arith, less))) in
     flat_map-cons (shown_of insts (take at frame)) id ids ∙ (ap (λ (l : List ℕ). l ++ flat_map (shown_of insts (take at frame)) ids) here
     ∙ (ap (λ (l : List ℕ). shown_of insts frame id ++ l) rest ∙ sym (flat_map-cons (shown_of insts frame) id ids)))
