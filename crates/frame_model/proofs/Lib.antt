@@ -1,3 +1,4 @@
+pub mod CompositeResults
 pub mod DeclaredStructs
 pub mod AccessOperands
 pub mod ChainOperands
@@ -5,6 +6,7 @@ pub mod FirstTruths
 pub mod FrameLimits
 pub mod FrameSizes
 pub mod FrameWrites
+pub mod GivenComposites
 pub mod GivenResults
 pub mod KnownSizes
 pub mod LayoutParts
@@ -18,5 +20,7 @@ pub mod ResultWords
 pub mod OperandReads
 pub mod ScalarWords
 pub mod SelectReads
+pub mod ReadOperands
+pub mod VectorWords
 pub mod WrittenWords
 pub mod ZeroId

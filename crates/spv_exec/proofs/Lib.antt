@@ -8,7 +8,11 @@ pub mod Filled
 pub mod MachineSteps
 pub mod OpcodeEffects
 pub mod PhiWords
+pub mod CompositeRuns
+pub mod GatheredWords
 pub mod PartAnswers
+pub mod PartStarts
+pub mod PickedWords
 pub mod PlacesTo
 pub mod ResultOpcodes
 pub mod StandEnters
@@ -19,6 +23,7 @@ pub mod ComponentLoops
 pub mod ComponentResults
 pub mod LargeOpcodes
 pub mod ScalarResults
+pub mod SplitWords
 pub mod StartsTo
 pub mod StepArms
 pub mod StoreWords

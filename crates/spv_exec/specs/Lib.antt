@@ -1,6 +1,7 @@
 pub mod Accesses
 pub mod Chains
 pub mod Branches
+pub mod Composites
 pub mod FirstFrames
 pub mod FlatMachine
 pub mod FlatStage
