@@ -26,4 +26,5 @@ pub mod ScalarResults
 pub mod SplitWords
 pub mod StartsTo
 pub mod StepArms
+pub mod WalkRuns
 pub mod StoreWords

@@ -50,6 +50,7 @@ fn branch(of: &ModuleFrame<'_>, at: &mut Stand, frame: &[u32]) -> Option<Kind>
         → GoesAt (program_of of.now.insts) frame.now at.old.place label → definition of.now.insts label ≡ Some to
         → IsAt state at.old → LeadsTo result at.new (jump at.old.place to state) }
     ensures few { result ≡ None → at.new.back_edges < BACK_EDGES }
+    ensures work { at.new.work ≡ at.old.work }
 {
     let to = of.definition(target(of, at.place, frame)).unwrap_or(0) as usize;
     if to > at.place {
@@ -68,8 +69,9 @@ fn branch(of: &ModuleFrame<'_>, at: &mut Stand, frame: &[u32]) -> Option<Kind>
 fn step(of: &ModuleFrame<'_>, at: &mut Stand, frame: &mut [u32], incoming: &mut [u32], memory: &mut [u32]) -> Option<Kind>
     requires stands { StandsSome of.now at.old frame.old incoming.old memory.old }
     requires room { at.old.work < 2 ^ 63 }
-    ensures { (m : Machine) → Stands of.now m at.old frame.old incoming.old memory.old
+    ensures steps { (m : Machine) → Stands of.now m at.old frame.old incoming.old memory.old
         → StepsTo of.now m result at.new frame.new incoming.new memory.new }
+    ensures work { at.new.work ≡ at.old.work + 1 }
 {
     at.work += 1;
     match of.inst(at.place).op {

@@ -44,44 +44,44 @@ run_result-requires-clause-is c =
     result_given c.args.of.now c.args.at.now c.args.frame.now c.args.incoming.now c.args.memory.now c.requires.stands
     (subst IsOther (ap (λ (i : Inst). i.op) c.inst.ensures) (other_op c))
 
-pub returns-in-248 : goal.returns-in-248
-returns-in-248 c = λ m s.
+pub returns-in-248-clause-steps : goal.returns-in-248-clause-steps
+returns-in-248-clause-steps c = λ m s.
     label_arm c.args.of.now m c.args.at.now c.enter.new.at c.args.frame.now c.args.incoming.now c.args.memory.now c.enter.new.incoming s (ap (λ (i : Inst). i.op) (sym c.inst.ensures) ∙ c.in-248.is) c.enter.ensures.stands c.enter.auto.incoming
     c.enter.ensures.taken
 
-pub returns-in-245 : goal.returns-in-245
-returns-in-245 c = λ m s.
+pub returns-in-245-clause-steps : goal.returns-in-245-clause-steps
+returns-in-245-clause-steps c = λ m s.
     phi_arm c.args.of.now m c.args.at.now c.args.frame.now c.args.incoming.now c.args.memory.now c.run_phi.new.frame s (ap (λ (i : Inst). i.op) (sym c.inst.ensures) ∙ c.in-245.is) c.run_phi.ensures
 
-pub returns-in-62 : goal.returns-in-62
-returns-in-62 c = λ m s.
+pub returns-in-62-clause-steps : goal.returns-in-62-clause-steps
+returns-in-62-clause-steps c = λ m s.
     store_arm c.args.of.now m c.args.at.now c.args.frame.now c.args.incoming.now c.args.memory.now c.run_store.new.memory s (ap (λ (i : Inst). i.op) (sym c.inst.ensures) ∙ c.in-62.is) c.run_store.ensures
 
-pub returns-in-253 : goal.returns-in-253
-returns-in-253 c = λ m s. return_arm c.args.of.now m c.args.at.now c.args.frame.now c.args.incoming.now c.args.memory.now s (ap (λ (i : Inst). i.op) (sym c.inst.ensures) ∙ c.in-253.is)
+pub returns-in-253-clause-steps : goal.returns-in-253-clause-steps
+returns-in-253-clause-steps c = λ m s. return_arm c.args.of.now m c.args.at.now c.args.frame.now c.args.incoming.now c.args.memory.now s (ap (λ (i : Inst). i.op) (sym c.inst.ensures) ∙ c.in-253.is)
 
-pub returns-in-255 : goal.returns-in-255
-returns-in-255 c = λ m s. unreachable_arm c.args.of.now m c.args.at.now c.args.frame.now c.args.incoming.now c.args.memory.now s (ap (λ (i : Inst). i.op) (sym c.inst.ensures) ∙ c.in-255.is)
+pub returns-in-255-clause-steps : goal.returns-in-255-clause-steps
+returns-in-255-clause-steps c = λ m s. unreachable_arm c.args.of.now m c.args.at.now c.args.frame.now c.args.incoming.now c.args.memory.now s (ap (λ (i : Inst). i.op) (sym c.inst.ensures) ∙ c.in-255.is)
 
-pub returns-in-252 : goal.returns-in-252
-returns-in-252 c = λ m s. kill_arm c.args.of.now m c.args.at.now c.args.frame.now c.args.incoming.now c.args.memory.now s (ap (λ (i : Inst). i.op) (sym c.inst.ensures) ∙ c.in-252.is)
+pub returns-in-252-clause-steps : goal.returns-in-252-clause-steps
+returns-in-252-clause-steps c = λ m s. kill_arm c.args.of.now m c.args.at.now c.args.frame.now c.args.incoming.now c.args.memory.now s (ap (λ (i : Inst). i.op) (sym c.inst.ensures) ∙ c.in-252.is)
 
-pub returns-in-247 : goal.returns-in-247
-returns-in-247 c = λ m s.
+pub returns-in-247-clause-steps : goal.returns-in-247-clause-steps
+returns-in-247-clause-steps c = λ m s.
     let e : (inst_at c.args.of.now.insts c.args.at.now.place).op ≡ c.inst.result.now.op = ap (λ (i : Inst). i.op) (sym c.inst.ensures) in
     elim (two_ops (inst_at c.args.of.now.insts c.args.at.now.place).op (omega (arith, e)) (omega (arith, e))) [
       | inl is ↦ loop_arm c.args.of.now m c.args.at.now c.args.frame.now c.args.incoming.now c.args.memory.now s is
       | inr is ↦ selection_arm c.args.of.now m c.args.at.now c.args.frame.now c.args.incoming.now c.args.memory.now s is
     ]
 
-pub returns-in-249 : goal.returns-in-249
-returns-in-249 c = λ m s.
+pub returns-in-249-clause-steps : goal.returns-in-249-clause-steps
+returns-in-249-clause-steps c = λ m s.
     let e : (inst_at c.args.of.now.insts c.args.at.now.place).op ≡ c.inst.result.now.op = ap (λ (i : Inst). i.op) (sym c.inst.ensures) in
     branch_arm c.args.of.now m c.args.at.now c.branch-of.new.at c.args.frame.now c.args.incoming.now c.args.memory.now c.branch-of.result s
     (three_ops (inst_at c.args.of.now.insts c.args.at.now.place).op (omega (arith, e)) (omega (arith, e))) c.branch-of.ensures.jumps c.branch-of.ensures.few
 
-pub returns-in_default : goal.returns-in_default
-returns-in_default c = λ m s.
+pub returns-in_default-clause-steps : goal.returns-in_default-clause-steps
+returns-in_default-clause-steps c = λ m s.
     result_arm c.args.of.now m c.args.at.now c.args.frame.now c.args.incoming.now c.args.memory.now c.run_result.new.frame s
     (subst IsOther (ap (λ (i : Inst). i.op) c.inst.ensures) (
     elim c.in_default.branch [
