@@ -3,3 +3,4 @@ pub mod BlockSteps
 pub mod CompositeWords
 pub mod Definitions
 pub mod Filled
+pub mod ShiftedOffsets

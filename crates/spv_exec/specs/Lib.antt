@@ -1,10 +1,13 @@
 pub mod Accesses
+pub mod BlockOffsets
 pub mod FirstFrames
 pub mod FlatMachine
 pub mod FlatStage
 pub mod FlatValue
 pub mod ModuleFrames
 pub mod Opcodes
+pub mod Origins
+pub mod Outputs
 pub mod PreparedFor
 pub mod Steps
 pub mod Variables

@@ -3,11 +3,14 @@
 
 mod accesses;
 mod block;
+mod block_offsets;
 mod composites;
 mod constants;
 mod member_starts;
 mod module_frame;
 mod operations;
+mod origins;
+mod outputs;
 mod places;
 mod run;
 mod values;
