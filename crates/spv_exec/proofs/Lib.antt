@@ -4,3 +4,7 @@ pub mod CompositeWords
 pub mod Definitions
 pub mod Filled
 pub mod ShiftedOffsets
+pub mod FirstOutputs
+pub mod FilledWords
+pub mod OriginWords
+pub mod FilledVariables

@@ -1,8 +1,9 @@
 -- Where the words of output variables lie in the memory.
-use Rattle.std.specs.Prelude.{◌≡◌, ℕ, ◌+◌, ◌<◌, Bool, true, false, nat_lt, if◌then◌else◌, List, length, take, map, replicate, slice_index, slice_index_or, Option, None, Some}
+use Rattle.std.specs.Prelude.{◌≡◌, ℕ, ◌+◌, ◌<◌, ◌==◌, Bool, true, false, nat_lt, if◌then◌else◌, List, length, take, map, replicate, slice_index, slice_index_or, Option, None, Some}
 use Rattle.std.specs.List.{find, range_with_len}
 use Rattle.limits.specs.declared.TheConstants.{LOCATIONS, COMPONENTS}
 use Rattle.spirv_model.specs.declared.module.Inst.{Inst}
+use Rattle.spirv_model.specs.declared.op.TheConstants.{VARIABLE}
 use Rattle.spirv_model.specs.declared.builtin.TheConstants as builtin
 use Rattle.spirv_model.specs.declared.decoration.TheConstants.{BUILT_IN, LOCATION}
 use Rattle.valid_model.specs.Definitions.{inst_at}
@@ -23,6 +24,7 @@ pub record IsOutputOf (program : Program) (inst : Inst) (output : Output) : Type
   pub place : ℕ
   pub within : place < length program.insts
   pub at : inst_at program.insts place ≡ inst
+  pub makes : inst.op == VARIABLE ≡ true
   pub start : output.start ≡ memory_place program place
   pub count : output.count ≡ variable_words program inst
 
@@ -44,3 +46,6 @@ component_at memory output k = if nat_lt k output.count then slice_index memory 
 abbrev pub components_at : List ℕ → Option Output → List ℕ
 components_at memory None = replicate COMPONENTS 0
 components_at memory (Some output) = map (component_at memory output) (range_with_len 0 COMPONENTS)
+
+abbrev pub slots_at : List ℕ → List (Option Output) → List (List ℕ)
+slots_at memory outputs = map (λ location. components_at memory (slice_index_or outputs location None)) (range_with_len 0 LOCATIONS)

@@ -1,5 +1,5 @@
 -- What a run knows of a module's variables.
-use Rattle.std.specs.Prelude.{◌≡◌, ℕ, ◌+◌, ◌<◌, ◌≤◌, ◌==◌, if◌then◌else◌, List, length, Some}
+use Rattle.std.specs.Prelude.{◌≡◌, ℕ, ◌+◌, ◌<◌, ◌≤◌, ◌==◌, if◌then◌else◌, List, [], ◌∷◌, length, Option, None, Some}
 use Rattle.std.specs.List.{fold}
 use Rattle.spirv_model.specs.declared.module.Inst.{Inst}
 use Rattle.spirv_model.specs.declared.module.Words.{Words}
@@ -31,8 +31,8 @@ pub record AreFills (program : Program) (count : ℕ) (fills : List Fill) : Type
 
 pub record IsVariables (words : Words) (fills : List Fill) (outputs : Outputs) : Type 0 where
   pub valid : IsValidList words
-  pub fills : AreFills (program_of words.insts) (length words.insts) fills
-  pub outputs : AreOutputs words.insts (length words.insts) outputs
+  pub filled_in : AreFills (program_of words.insts) (length words.insts) fills
+  pub left_in : AreOutputs words.insts (length words.insts) outputs
 
 -- the words of a variable, which stand at these places, are filled in, too
 pub record AddsWords (origin : Origin) (offsets : List ℕ) (start end : ℕ) (old new : List Fill) : Type 0 where
@@ -40,3 +40,8 @@ pub record AddsWords (origin : Origin) (offsets : List ℕ) (start end : ℕ) (o
   pub held : (inputs : Inputs) (buffers : Buffers) (k : ℕ) → start + k < end → filled inputs buffers old (start + k) ≡ 0
       → filled inputs buffers new (start + k) ≡ option_word (origin_word inputs buffers origin) (index_of origin offsets k)
   pub beyond : (inputs : Inputs) (buffers : Buffers) (at : ℕ) → end ≤ at → start ≤ at → filled inputs buffers new at ≡ filled inputs buffers old at
+
+-- what is filled in for a word with this number where it comes from, if it has one
+abbrev pub one_fill : Origin → ℕ → Option ℕ → List Fill
+one_fill origin at None = []
+one_fill origin at (Some index) = record { at = at; index = index; origin = origin } ∷ []

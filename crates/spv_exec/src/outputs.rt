@@ -1,13 +1,16 @@
 //! Where the words of output variables lie in the memory.
-ghost use Rattle.std.specs.Prelude.{◌≡◌, ℕ, ◌+◌, ◌<◌, length, slice_index_or, None};
+ghost use Rattle.std.specs.Prelude.{◌≡◌, ℕ, ◌+◌, ◌<◌, ◌==◌, ◌&&◌, length, slice_index_or, None};
+ghost use Rattle.spirv_model.specs.Operands.{word_at};
+ghost use Rattle.spirv_model.specs.declared.op.TheConstants.{VARIABLE};
+ghost use Rattle.spirv_model.specs.declared.storage_class.TheConstants.{OUTPUT};
 ghost use Rattle.spirv_model.specs.declared.builtin.TheConstants.{POSITION};
 ghost use Rattle.stage_model.specs.Stage.{is_number};
-ghost use Rattle.spv_exec.specs.Outputs.{AreOutputs, component_at, components_at, first_or};
+ghost use Rattle.spv_exec.specs.Outputs.{AreOutputs, component_at, components_at, first_or, slots_at};
 
 use crate::module_frame::ModuleFrame;
 use crate::origins::{built_in, location};
 use limits::{COMPONENTS, LOCATIONS};
-use spirv_model::{builtin, op, storage_class};
+use spirv_model::{Inst, builtin, op, storage_class};
 
 /// Where the words of an output variable begin in the memory, and how many they are.
 #[derive(Clone, Copy, Debug, Drop)]
@@ -37,6 +40,13 @@ pub fn outputs_of(of: &ModuleFrame<'_>) -> Outputs
     outputs
 }
 
+/// Whether the instruction makes an output variable.
+fn is_output(inst: &Inst) -> bool
+    ensures { result ≡ ((inst.now.op == VARIABLE) && (word_at 2 inst.now == OUTPUT)) }
+{
+    inst.op == op::VARIABLE && inst.word(2) == storage_class::OUTPUT
+}
+
 /// The outputs with that of the instruction at this place, where it makes one.
 fn with_output(of: &ModuleFrame<'_>, place: usize, outputs: Outputs) -> Outputs
     requires within { place < length of.now.insts }
@@ -44,7 +54,7 @@ fn with_output(of: &ModuleFrame<'_>, place: usize, outputs: Outputs) -> Outputs
     ensures { AreOutputs of.now.insts (place + 1) result }
 {
     let inst = of.inst(place);
-    if inst.op != op::VARIABLE || inst.word(2) != storage_class::OUTPUT {
+    if !is_output(inst) {
         return outputs;
     }
     let output = Output {
@@ -104,6 +114,20 @@ pub fn components(memory: &[u32], output: Option<Output>) -> [u32; COMPONENTS]
         components[k] = component(memory, output, k);
     }
     components
+}
+
+/// The components of what the outputs at each location hold.
+pub fn slots(
+    memory: &[u32],
+    outputs: &[Option<Output>; LOCATIONS],
+) -> [[u32; COMPONENTS]; LOCATIONS]
+    ensures { result ≡ slots_at memory.now outputs.now }
+{
+    let mut slots = [[0; COMPONENTS]; LOCATIONS];
+    for location in 0..LOCATIONS {
+        slots[location] = components(memory, outputs[location]);
+    }
+    slots
 }
 
 fn component(memory: &[u32], output: Output, k: usize) -> u32

@@ -1,16 +1,16 @@
-ghost use Rattle.std.specs.Prelude.{◌≡◌, ℕ, ◌+◌, ◌<◌, length, slice_index, IfOk, OnOk};
+ghost use Rattle.std.specs.Prelude.{◌≡◌, ℕ, ◌+◌, ◌<◌, ◌≤◌, ◌==◌, ◌^◌, ◌++◌, if◌then◌else◌, length, slice_index, IfOk, OnOk};
 ghost use Rattle.spirv_model.specs.declared.module.Words.{Words};
 ghost use Rattle.stage_model.specs.Program.{program_of};
 ghost use Rattle.stage_model.specs.Start.{Memory, first_memory};
 ghost use Rattle.stage_model.specs.Stage.{position_left, slots_left};
 ghost use Rattle.frame_model.specs.Frame.{memory_place};
 ghost use Rattle.frame_model.specs.Shown.{ShowsMemory};
-ghost use Rattle.spv_exec.specs.Variables.{AddsWords, AreFills, IsVariables, filled};
+ghost use Rattle.spv_exec.specs.Variables.{AddsWords, AreFills, IsVariables, filled, one_fill};
 
 use crate::block_offsets::block_offsets;
 use crate::module_frame::ModuleFrame;
 use crate::origins::{Origin, index, origin_of, word};
-use crate::outputs::{Outputs, components, outputs_of};
+use crate::outputs::{Outputs, components, outputs_of, slots};
 use limits::{COMPONENTS, LOCATIONS};
 use spirv_model::op;
 use spv_check::Module;
@@ -82,13 +82,9 @@ impl<'m> Variables<'m> {
         ensures slots { (held : Memory) → ShowsMemory (program_of self.now.insts) memory.now held
             → result.slots ≡ slots_left (program_of self.now.insts) held }
     {
-        let mut slots = [[0; COMPONENTS]; LOCATIONS];
-        for location in 0..LOCATIONS {
-            slots[location] = components(memory, self.outputs.slots[location]);
-        }
         Left {
             position: components(memory, self.outputs.position),
-            slots,
+            slots: slots(memory, &self.outputs.slots),
         }
     }
 }
@@ -112,6 +108,7 @@ fn add_variable(
     place: usize,
 ) -> Result<(), AllocError>
     requires within { place < length of.now.insts }
+    requires fits { place + 1 < 2 ^ 64 }
     requires before { AreFills (program_of of.now.insts) place fills.old.items }
     ensures { OnOk result (AreFills (program_of of.now.insts) (place + 1) fills.new.items) }
 {
@@ -125,7 +122,8 @@ fn add_variable(
     };
     let origin = origin_of(of, inst.word(1), u32::from(*class));
     let offsets = block_offsets(alloc, of, of.meaning(*ty))?;
-    add_words(fills, origin, offsets.as_slice(), start, end)
+    add_words(fills, origin, offsets.as_slice(), start, end)?;
+    Ok(())
 }
 
 /// Adds the words of a variable that stand at these places.
@@ -136,26 +134,55 @@ fn add_words(
     start: usize,
     end: usize,
 ) -> Result<(), AllocError>
+    requires { start ≤ end }
     ensures { OnOk result (AddsWords origin offsets.now start end fills.old.items fills.new.items) }
 {
     for at in start..end {
-        if let Some(index) = index(origin, offsets, at - start) {
-            fills.push(Fill { at, index, origin })?;
-        }
+        add_word(fills, origin, index(origin, offsets, at - start), at)?;
     }
     Ok(())
 }
 
+/// Adds the word at a place, which has this number where it comes from, if it has one.
+fn add_word(
+    fills: &mut Vec<Fill>,
+    origin: Origin,
+    index: Option<usize>,
+    at: usize,
+) -> Result<(), AllocError>
+    ensures { OnOk result (fills.new.items ≡ fills.old.items ++ one_fill origin at index) }
+{
+    if let Some(index) = index {
+        fills.push(Fill { at, index, origin })?;
+    }
+    Ok(())
+}
+
+/// Clears the memory, and fills the words in.
 fn fill_in(fills: &[Fill], inputs: &Inputs, buffers: &Buffers, memory: &mut [u32])
     ensures { (at : ℕ) → at < length memory.old
         → slice_index memory.new at ≡ filled inputs.now buffers.now fills.now at }
 {
-    for word in memory.iter_mut() {
-        *word = 0;
-    }
+    clear(memory);
     for fill in fills {
-        if fill.at < memory.len() {
-            memory[fill.at] = word(fill.origin, fill.index, inputs, buffers);
-        }
+        let word = word(fill.origin, fill.index, inputs, buffers);
+        fill_word(memory, fill.at, word);
+    }
+}
+
+fn clear(memory: &mut [u32])
+    ensures { (at : ℕ) → at < length memory.old → slice_index memory.new at ≡ 0 }
+{
+    for at in 0..memory.len() {
+        memory[at] = 0;
+    }
+}
+
+fn fill_word(memory: &mut [u32], at: usize, word: u32)
+    ensures { (other : ℕ) → other < length memory.old
+        → slice_index memory.new other ≡ (if at == other then word else slice_index memory.old other) }
+{
+    if at < memory.len() {
+        memory[at] = word;
     }
 }
