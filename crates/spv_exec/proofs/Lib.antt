@@ -8,3 +8,4 @@ pub mod FirstOutputs
 pub mod FilledWords
 pub mod OriginWords
 pub mod FilledVariables
+pub mod OutputsLeft
