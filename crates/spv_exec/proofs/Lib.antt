@@ -9,3 +9,6 @@ pub mod FilledWords
 pub mod OriginWords
 pub mod FilledVariables
 pub mod OutputsLeft
+pub mod PartAnswers
+pub mod PlacesTo
+pub mod StartsTo
