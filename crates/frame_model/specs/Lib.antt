@@ -1,3 +1,5 @@
+pub mod Along
 pub mod Frame
 pub mod Shown
+pub mod Truths
 pub mod Written

@@ -1,5 +1,6 @@
 pub mod BlockRuns
 pub mod BlockSteps
+pub mod ChainWords
 pub mod CompositeWords
 pub mod Definitions
 pub mod Filled
@@ -12,3 +13,5 @@ pub mod OutputsLeft
 pub mod PartAnswers
 pub mod PlacesTo
 pub mod StartsTo
+pub mod PhiWords
+pub mod StoreWords

@@ -1,5 +1,7 @@
 pub mod Accesses
 pub mod BlockOffsets
+pub mod Chains
+pub mod Branches
 pub mod FirstFrames
 pub mod FlatMachine
 pub mod FlatStage
@@ -8,7 +10,9 @@ pub mod ModuleFrames
 pub mod Opcodes
 pub mod Origins
 pub mod Outputs
+pub mod Phis
 pub mod PreparedFor
 pub mod Steps
 pub mod Variables
 pub mod Views
+pub mod Walks

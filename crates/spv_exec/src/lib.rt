@@ -4,17 +4,23 @@
 mod accesses;
 mod block;
 mod block_offsets;
+mod branches;
 mod composites;
 mod constants;
+mod copies;
 mod member_starts;
 mod module_frame;
 mod operations;
 mod origins;
 mod outputs;
+mod phis;
 mod places;
+mod results;
 mod run;
+mod stand;
 mod values;
 mod variables;
+mod walk;
 
 pub use run::run_flat;
 pub use spirv_model::{Inst, Items};

@@ -116,16 +116,16 @@ untyped known inst =
     (choose_type (inst.op == op.TYPE_FUNCTION) (a_choice _ _ _) no_type)))))))
 
 -- OpVariable with this type and class
-record MakesVariable (inst : Inst) (type class : ℕ) : Type 0 where
-  no_type : is_type inst.op ≡ false
-  is : inst.op == op.VARIABLE ≡ true
-  of : word_at 0 inst ≡ type
-  in_class : word_at 2 inst ≡ class
+pub record MakesVariable (inst : Inst) (type class : ℕ) : Type 0 where
+  pub no_type : is_type inst.op ≡ false
+  pub is : inst.op == op.VARIABLE ≡ true
+  pub of : word_at 0 inst ≡ type
+  pub in_class : word_at 2 inst ≡ class
 
 same_variable : (a b type class : ℕ) → ◌≡◌ {A = Meaning} (Variable a b) (Variable type class) → (a ≡ type) × (b ≡ class)
 same_variable a b type class is = (cc, cc)
 
-makes_variable : (known : Knowledge) (inst : Inst) (type class : ℕ) → (known_of known inst).meaning ≡ Variable type class → MakesVariable inst type class
+pub makes_variable : (known : Knowledge) (inst : Inst) (type class : ℕ) → (known_of known inst).meaning ≡ Variable type class → MakesVariable inst type class
 unfolding known_of
 makes_variable known inst type class is =
     by_tests known inst type class (is_type inst.op) (is_constant inst.op) (inst.op == op.VARIABLE) (is_storage_class (word_at 2 inst)) (inst.op == op.LABEL) _ refl refl is
