@@ -1,19 +1,17 @@
 -- The words of a composite's parts: those of a part stand among the whole's where its layout says.
-use Rattle.std.proofs.Common.{◌≡◌, ℕ, zero, suc, ◌+◌, ◌-◌, ◌<◌, ◌≤◌, ◌==◌, Bool, true, false, nat_lt, if◌then◌else◌, List, [], ◌∷◌, ◌++◌, length, take, drop, replicate, refl, ap, sym, ◌∙◌, subst, arith, append_assoc, length-append, length-drop, Option, None, Some}
+use Rattle.std.proofs.Common.{◌≡◌, ℕ, zero, suc, ◌+◌, ◌-◌, ◌≤◌, ◌==◌, Bool, false, if◌then◌else◌, List, [], ◌∷◌, ◌++◌, length, take, drop, refl, ap, sym, ◌∙◌, subst, arith, length-append, length-drop, Option, None, Some}
 use Rattle.std.specs.Prelude.{slice_get}
 use Rattle.std.specs.Option.{option_map, option_and_then, unwrap_or}
-use Rattle.std.specs.List.{flat_map}
 use Rattle.std.proofs.lemmas.Bool.Decides.{nat_tests}
-use Rattle.std.proofs.lemmas.List.{append-nil, take_all, take-take, take_at, drop_at, drop-drop, drop-take, drop_all, take-append-le, length-take-le, replicate-append-replicate}
-use Rattle.std.proofs.lemmas.List.Concat.{flat_map-cons}
-use Rattle.stage_model.specs.Value.{Value, Truth, Word, Composite, Pointer, Outside, Parts, NoParts, PartsOf, Layout, OneTruth, OneWord, Several, Layouts, NoLayouts, LayoutsOf, size_of, sizes_of, words_with, words_of, words_of_parts, value_of, parts_of, zero_of, part_at, part_along, list_of, parts_from}
+use Rattle.std.proofs.lemmas.List.{take_all, take-take, take_at, drop_at, drop-drop, drop-take, length-take-le}
+use Rattle.stage_model.specs.Value.{Value, Truth, Word, Composite, Pointer, Outside, Parts, PartsOf, Layout, OneTruth, OneWord, Several, Layouts, NoLayouts, LayoutsOf, size_of, words_with, words_of, words_of_parts, part_at, part_along, list_of}
 use Rattle.stage_model.specs.Program.{Program}
-use Rattle.stage_model.specs.Operations.{parts_in, composite, extracted, replaced, inserted, components_of, constructed}
+use Rattle.stage_model.specs.Operations.{parts_in, extracted}
 use Rattle.typed_model.specs.Values.{layouts_in, HasLayout}
-use Rattle.typed_model.proofs.Layouts.{truth_of, word_of, several_of, front_of, no_parts, same_parts}
+use Rattle.typed_model.proofs.Layouts.{truth_of, word_of, several_of, front_of, no_parts}
 use Rattle.frame_model.specs.Frame.{in_frame}
 use Rattle.frame_model.specs.Shown.{words_at}
-use Rattle.frame_model.proofs.FrameSizes.{layout_size, layouts_size}
+use Rattle.frame_model.proofs.FrameSizes.{layout_size}
 
 same_some : {A : Type 0} (x y : A) → Some x ≡ Some y → x ≡ y
 same_some x y is = cc

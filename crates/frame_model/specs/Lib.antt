@@ -1,4 +1,5 @@
 pub mod Along
+pub mod Componentwise
 pub mod Frame
 pub mod Shown
 pub mod Truths

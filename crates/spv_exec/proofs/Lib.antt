@@ -10,8 +10,12 @@ pub mod FilledWords
 pub mod OriginWords
 pub mod FilledVariables
 pub mod OutputsLeft
+pub mod ComponentLoops
+pub mod ComponentResults
+pub mod LargeOpcodes
 pub mod PartAnswers
 pub mod PlacesTo
+pub mod ScalarResults
 pub mod StartsTo
 pub mod PhiWords
 pub mod StoreWords

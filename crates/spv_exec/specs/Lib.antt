@@ -12,6 +12,7 @@ pub mod Origins
 pub mod Outputs
 pub mod Phis
 pub mod PreparedFor
+pub mod ScalarWords
 pub mod Steps
 pub mod Variables
 pub mod Views

@@ -5,6 +5,7 @@ mod accesses;
 mod block;
 mod block_offsets;
 mod branches;
+mod components;
 mod composites;
 mod constants;
 mod copies;
