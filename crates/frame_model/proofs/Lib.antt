@@ -1,3 +1,4 @@
+pub mod CompositeResults
 pub mod DeclaredStructs
 pub mod AccessOperands
 pub mod ChainOperands
@@ -19,3 +20,6 @@ pub mod LayoutParts
 pub mod LoadedWords
 pub mod MemoryAccesses
 pub mod PointerWords
+pub mod GivenComposites
+pub mod ReadOperands
+pub mod VectorWords

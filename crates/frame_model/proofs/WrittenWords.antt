@@ -1,8 +1,8 @@
 -- Words that are written in place of others, at each index and in each part.
-use Rattle.std.proofs.Common.{◌≡◌, ℕ, ◌+◌, ◌-◌, ◌<◌, ◌≤◌, List, [], ◌∷◌, length, get_or, take, drop, set, ◌++◌, ap, sym, ◌∙◌, arith, append_assoc, length-append, length-drop}
+use Rattle.std.proofs.Common.{◌≡◌, ℕ, ◌+◌, ◌-◌, ◌<◌, ◌≤◌, List, [], ◌∷◌, length, get_or, take, drop, set, ◌++◌, refl, ap, sym, ◌∙◌, arith, append_assoc, length-append, length-drop}
 use Rattle.std.specs.Prelude.{slice_index}
 use Rattle.std.specs.List.{copy_within}
-use Rattle.std.proofs.lemmas.List.{append-nil, take_more, drop_more, drop-drop, drop_at, take_at, set_at, take-append-drop, length-take-le, get_or-take, get_or-drop, get_or_append_left, get_or-append_right, ext_get_or}
+use Rattle.std.proofs.lemmas.List.{append-nil, take_all, take-append-le, drop-append-le, get_or_at, take_more, drop_more, drop-drop, drop_at, take_at, set_at, take-append-drop, length-take-le, get_or-take, get_or-drop, get_or_append_left, get_or-append_right, ext_get_or}
 use Rattle.frame_model.specs.Shown.{words_at}
 use Rattle.frame_model.specs.Written.{written}
 
@@ -127,3 +127,38 @@ copied xs from count at end is room =
     let long = length_words_at xs from count room in
     let n : end - from ≡ count = omega (arith, is) in
     ap (λ (n : ℕ). take at xs ++ take n (drop from xs) ++ drop (at + n) xs) n ∙ ap (λ (n : ℕ). take at xs ++ words_at xs from count ++ drop (at + n) xs) (sym long)
+
+-- one word more behind those that are written
+pub written_push : (xs : List ℕ) (at : ℕ) (new : List ℕ) (word place : ℕ) → place ≡ at + length new → place < length xs → set (written xs at new) place word ≡ written xs at (new ++ word ∷ [])
+written_push xs at new word place is room =
+    let all : List ℕ = new ++ word ∷ [] in
+    let long : length all ≡ length new + 1 = length-append new (word ∷ []) in
+    let here : take (length new) all ≡ new = take_at new (word ∷ []) (length new) refl in
+    let last : slice_index all (length new) ≡ word = get_or_at new word [] 0 (length new) refl in
+    let whole : take (length new + 1) all ≡ all = take_all (length new + 1) all (omega (arith, long)) in
+    ap (λ (n : ℕ). set (written xs at new) n word) is
+    ∙ (ap (λ (l : List ℕ). set (written xs at l) (at + length new) word) (sym here)
+    ∙ (ap (λ (w : ℕ). set (written xs at (take (length new) all)) (at + length new) w) (sym last)
+    ∙ (written_next xs at all (length new) (omega (arith, long, is, room)) (omega (arith, long)) ∙ ap (written xs at) whole)))
+
+-- ---- behind a place
+
+-- words that are written where what is behind a place begins
+pub written_front : (xs : List ℕ) (at : ℕ) (new : List ℕ) → take at xs ++ written (drop at xs) 0 new ≡ written xs at new
+written_front xs at new =
+    let e : 0 + length new ≡ length new = omega arith in
+    ap (λ (l : List ℕ). take at xs ++ (new ++ l)) (ap (λ (n : ℕ). drop n (drop at xs)) e ∙ drop-drop (length new) at xs) ∙ sym (append_assoc (take at xs) new (drop (at + length new) xs))
+
+-- words that are written into words that were written
+pub written_into : (xs new more : List ℕ) (start : ℕ) → length new ≤ length xs → start + length more ≤ length new → written (written xs 0 new) start more ≡ written xs 0 (written new start more)
+written_into xs new more start room fits =
+    let e : 0 + length new ≡ length new = omega arith in
+    let rest : List ℕ = drop (length new) xs in
+    let first : written xs 0 new ≡ new ++ rest = ap (λ (n : ℕ). new ++ drop n xs) e in
+    let taken : take start (new ++ rest) ≡ take start new = take-append-le start new rest (omega (arith, fits)) in
+    let dropped : drop (start + length more) (new ++ rest) ≡ drop (start + length more) new ++ rest = drop-append-le (start + length more) new rest fits in
+    let long : 0 + length (written new start more) ≡ length new = (let l = length_written new more start fits in omega (arith, l)) in
+    ap (λ (l : List ℕ). written l start more) first
+    ∙ (ap (λ (l : List ℕ). l ++ more ++ drop (start + length more) (new ++ rest)) taken
+    ∙ (ap (λ (l : List ℕ). take start new ++ more ++ l) dropped
+    ∙ (sym (append_assoc (take start new ++ more) (drop (start + length more) new) rest) ∙ ap (λ (n : ℕ). written new start more ++ drop n xs) (sym long))))

@@ -13,9 +13,14 @@ pub mod OutputsLeft
 pub mod ComponentLoops
 pub mod ComponentResults
 pub mod LargeOpcodes
+pub mod CompositeRuns
+pub mod GatheredWords
 pub mod PartAnswers
+pub mod PartStarts
+pub mod PhiWords
+pub mod PickedWords
 pub mod PlacesTo
 pub mod ScalarResults
 pub mod StartsTo
-pub mod PhiWords
 pub mod StoreWords
+pub mod SplitWords

@@ -2,6 +2,7 @@ pub mod Accesses
 pub mod BlockOffsets
 pub mod Chains
 pub mod Branches
+pub mod Composites
 pub mod FirstFrames
 pub mod FlatMachine
 pub mod FlatStage
