@@ -8,7 +8,7 @@ use Rattle.stage_model.specs.Value.{Value, Truth, Word, Composite, Pointer, Outs
 use Rattle.stage_model.specs.Program.{Program}
 use Rattle.stage_model.specs.Operations.{parts_in, composite, extracted, replaced, inserted}
 use Rattle.typed_model.specs.Values.{layouts_in, HasLayout}
-use Rattle.typed_model.proofs.Layouts.{truth_of, word_of, several_of, front_of, no_parts}
+use Rattle.typed_model.proofs.Layouts.{truth_of, word_of, several_of, front_of, no_parts, same_parts}
 use Rattle.frame_model.specs.Frame.{in_frame}
 use Rattle.frame_model.specs.Shown.{words_at}
 use Rattle.frame_model.proofs.FrameSizes.{layout_size}
