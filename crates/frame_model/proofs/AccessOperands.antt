@@ -1,5 +1,5 @@
 -- The operands of loads, stores and chains in a valid module's frame.
-use Rattle.std.proofs.Common.{◌≡◌, ℕ, zero, suc, ◌+◌, ◌<◌, ◌≤◌, ◌^◌, ◌==◌, Bool, true, false, if◌then◌else◌, List, [], ◌∷◌, length, get_or, take, drop, slice_index, replicate, refl, ap, sym, ◌∙◌, subst, arith, Option, None, Some, is_some}
+use Rattle.std.proofs.Common.{◌≡◌, ℕ, ◌+◌, ◌<◌, ◌≤◌, ◌==◌, true, List, [], ◌∷◌, length, get_or, slice_index, replicate, refl, ap, sym, ◌∙◌, subst, arith, Option, None, Some, is_some}
 use Rattle.std.specs.Option.{option_map, option_and_then}
 use Rattle.std.proofs.lemmas.Bool.Decides.{nat_tests}
 use Rattle.std.proofs.lemmas.List.{length-replicate}
@@ -26,8 +26,8 @@ use Rattle.stage_model.specs.Value.{Value, Pointer, Layout, size_of, words_of, p
 use Rattle.stage_model.specs.Program.{Program, program_of}
 use Rattle.stage_model.specs.Start.{Values, Memory, all_values}
 use Rattle.stage_model.specs.Effect.{Effect, Passes, Gives, Writes, read_ids, result_of, effect_of, with_words, loaded, stored}
-use Rattle.typed_model.specs.Values.{PointsTo, IsData, IsPointer, IsOfMeaning, IsOfType}
-use Rattle.typed_model.specs.Types.{HasTypes, typing_in, Suits, AllSuit}
+use Rattle.typed_model.specs.Values.{PointsTo, IsData, IsOfMeaning, IsOfType}
+use Rattle.typed_model.specs.Types.{Suits, AllSuit}
 use Rattle.typed_model.proofs.BlockResults.{gives_value, variable_gives}
 use Rattle.typed_model.proofs.EffectsRun.{instruction}
 use Rattle.typed_model.proofs.MemoryValues.{PointerOperand, pointer_operand, pointer_value, object_by}

@@ -1,5 +1,5 @@
 -- The operands of chains in a valid module's frame.
-use Rattle.std.proofs.Common.{◌≡◌, ℕ, ◌+◌, ◌≤◌, ◌^◌, ◌==◌, get_or, Bool, true, false, List, [], ◌∷◌, length, drop, slice_index, refl, ap, sym, ◌∙◌, subst, arith, Option, None, Some, is_some}
+use Rattle.std.proofs.Common.{◌≡◌, ℕ, ◌+◌, ◌≤◌, ◌^◌, ◌==◌, get_or, Bool, true, List, [], ◌∷◌, drop, slice_index, refl, ap, sym, ◌∙◌, subst, arith, Option, None, Some, is_some}
 use Rattle.std.specs.Option.{option_map, option_and_then}
 use Rattle.spirv_model.specs.declared.module.Inst.{Inst}
 use Rattle.spirv_model.specs.declared.module.Words.{Words}
@@ -7,7 +7,7 @@ use Rattle.spirv_model.specs.declared.op.TheConstants as op
 use Rattle.spirv_model.specs.Operands.{word_at, entry_of, class_of, kinds}
 use Rattle.valid_model.specs.declared.meaning.Meaning.TheVariants.{Shape as OfShape, Variable}
 use Rattle.valid_model.specs.declared.meaning.Shape.TheVariants.{Pointer as PointerType}
-use Rattle.valid_model.specs.Definitions.{definition, inst_at}
+use Rattle.valid_model.specs.Definitions.{inst_at}
 use Rattle.valid_model.specs.Meanings.{meaning}
 use Rattle.valid_model.specs.ModuleFacts.{is_vertex, facts_of}
 use Rattle.check_model.specs.declared.components.Part.{Part}
@@ -15,11 +15,11 @@ use Rattle.check_model.specs.declared.components.Part.TheVariants as part
 use Rattle.check_model.specs.MemoryOperands.{chain_along, chain_step, memory_operands_fit}
 use Rattle.check_model.specs.Typing.{type_id, constant_word}
 use Rattle.check_model.specs.Validity.{IsValidList}
-use Rattle.stage_model.specs.Value.{Value, Word, Layout, OneTruth, OneWord, Several, Layouts, size_of, part_at, part_along}
+use Rattle.stage_model.specs.Value.{Value, Word, Layout, Several, Layouts, size_of, part_at, part_along}
 use Rattle.stage_model.specs.Program.{Program, program_of}
 use Rattle.stage_model.specs.Start.{Values, Memory, all_values}
-use Rattle.stage_model.specs.Effect.{Gives, read_ids, result_of, effect_of, all_words, chained, chain_of}
-use Rattle.typed_model.specs.Types.{HasTypes, typing_in, part_layout, Suits, AllSuit}
+use Rattle.stage_model.specs.Effect.{Gives, read_ids, result_of, effect_of, all_words, chained}
+use Rattle.typed_model.specs.Types.{HasTypes, part_layout, Suits, AllSuit}
 use Rattle.typed_model.proofs.Chains.{ChainRule, ChainStep, rule_by, step_is, nowhere}
 use Rattle.typed_model.proofs.EffectsRun.{instruction}
 use Rattle.typed_model.proofs.MemoryValues.{pointer_value}
@@ -28,7 +28,7 @@ use Rattle.typed_model.proofs.ReadTypes.{Each, IsTyped, chain_typed}
 use Rattle.typed_model.proofs.ReadValues.{typing_here, numbers_typed}
 use Rattle.typed_model.proofs.ValidModules.{valid_sound}
 use Rattle.typed_model.proofs.ValidTypes.{valid_types}
-use Rattle.frame_model.specs.Along.{word_along, ShowsIndex, ShowsIndices, TakesIndices}
+use Rattle.frame_model.specs.Along.{word_along, ShowsIndices, TakesIndices}
 use Rattle.frame_model.specs.Frame.{OUTSIDE, frame_place, in_frame}
 use Rattle.frame_model.specs.Shown.{IsFrame, Shows}
 use Rattle.frame_model.specs.Written.{GivesAt}
@@ -72,12 +72,12 @@ one_more insts frame id ids value values whole next s stands rest = record {
   indices = s.word ∷ rest.indices;
   are = ap (λ (v : Value). all_words (v ∷ values)) s.is_word ∙ ap (option_map (λ words. s.word ∷ words)) rest.are;
   shows = (
-      record {
-        place = stands.at;
-        defined = stands.defined;
-        is = word_of_value insts frame id s.word value stands (ap (in_frame (program_of insts)) s.is_word ∙ word_in_frame (program_of insts) s.word);
-      },
-      rest.shows,
+    record {
+      place = stands.at;
+      defined = stands.defined;
+      is = word_of_value insts frame id s.word value stands (ap (in_frame (program_of insts)) s.is_word ∙ word_in_frame (program_of insts) s.word);
+    },
+    rest.shows,
   );
   takes = subst (λ (l : Layout). TakesIndices l (s.word ∷ rest.indices)) (sym s.is) (takes_more s.parts s.word rest.indices s.layout s.same rest.takes);
 }

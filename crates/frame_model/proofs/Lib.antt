@@ -2,6 +2,7 @@ pub mod CompositeResults
 pub mod DeclaredStructs
 pub mod AccessOperands
 pub mod ChainOperands
+pub mod FirstTruths
 pub mod FrameLimits
 pub mod FrameSizes
 pub mod FrameWrites

@@ -56,10 +56,10 @@ part_words words v memory held shows variable indices layout l =
     let fits = l.fits in
     sym (words_at_is memory part at (omega (arith, room, long))
     (λ k less.
-      let less_size : k < size_of layout = omega (arith, less, long) in
-      let e : at + k ≡ memory_place program l.lies.place + (l.place + k) = omega arith in
-      ap (λ (n : ℕ). get_or memory n 0) e
-      ∙ (shows.shows variable l.lies.place (l.place + k) l.lies.defined (omega (arith, fits, less_size)) ∙ sym (words_from_index held variable l.place (size_of layout) k less_size))))
+    let less_size : k < size_of layout = omega (arith, less, long) in
+    let e : at + k ≡ memory_place program l.lies.place + (l.place + k) = omega arith in
+    ap (λ (n : ℕ). get_or memory n 0) e
+    ∙ (shows.shows variable l.lies.place (l.place + k) l.lies.defined (omega (arith, fits, less_size)) ∙ sym (words_from_index held variable l.place (size_of layout) k less_size))))
     ∙ ap (words_at memory at) long
 
 part_truths : (words : Words) (memory : List ℕ) (held : Memory) → ShowsMemory (program_of words.insts) memory held → (variable : ℕ) (indices : List ℕ) (layout : Layout) (l : PointerLies (program_of words.insts) variable indices layout)
@@ -115,12 +115,12 @@ stored_truths program held truths variable indices layout object new l has are o
     let long : length new ≡ size_of layout = ap length (same_some new s.list (sym are ∙ s.is)) ∙ s.count in
     inside_test (other == variable) (nat_le l.place k) (nat_lt k (l.place + length new))
     (λ own low high.
-      let from = leb-true l.place k low in let below = ltb-true k (l.place + length new) high in
-      let e : l.place + (k - l.place) ≡ k = omega (arith, from) in
-      let inner : k - l.place < size_of layout = omega (arith, from, below, long) in
-      let w : whole ≡ l.whole = same_some whole l.whole (sym holds ∙ (ap (held_layout program) (same other variable own) ∙ l.holds)) in
-      value_truths object layout new has are (k - l.place) inner
-      (sym ((lies_along indices l.whole l.place layout l.found).same (k - l.place) inner) ∙ (ap (is_truth_at l.whole) e ∙ (ap (λ (o : Layout). is_truth_at o k) (sym w) ∙ is))))
+    let from = leb-true l.place k low in let below = ltb-true k (l.place + length new) high in
+    let e : l.place + (k - l.place) ≡ k = omega (arith, from) in
+    let inner : k - l.place < size_of layout = omega (arith, from, below, long) in
+    let w : whole ≡ l.whole = same_some whole l.whole (sym holds ∙ (ap (held_layout program) (same other variable own) ∙ l.holds)) in
+    value_truths object layout new has are (k - l.place) inner
+    (sym ((lies_along indices l.whole l.place layout l.found).same (k - l.place) inner) ∙ (ap (is_truth_at l.whole) e ∙ (ap (λ (o : Layout). is_truth_at o k) (sym w) ∙ is))))
     (truths other whole k holds less is)
 
 store_to : (words : Words) → IsValidList words → (memory : List ℕ) (held : Memory) → ShowsMemory (program_of words.insts) memory held → (variable : ℕ) (indices : List ℕ) (layout : Layout) (object : Value) (new : List ℕ) (effect : Effect)

@@ -35,6 +35,6 @@ store_at_word words frame memory after held object effect object_at to own from 
     let size = o.size in let fits = o.fits in let room = w.fits in
     let is = copied (omega (arith, from_is, count_is, size, fits)) (omega (arith, to_is, count_is, size, room)) in
     let stands : words_at frame from count ≡ in_frame program object =
-        ap (λ (n : ℕ). words_at frame n count) from_is ∙ (ap (words_at frame (frame_place program object_at)) count_is ∙ o.stands) in
+    ap (λ (n : ℕ). words_at frame n count) from_is ∙ (ap (words_at frame (frame_place program object_at)) count_is ∙ o.stands) in
     let made : after ≡ written memory own (in_frame program object) = is ∙ (ap (written memory to) stands ∙ ap (λ (n : ℕ). written memory n (in_frame program object)) to_is) in
     subst (λ (e : Effect). ShowsMemory program after (memory_after held e)) (sym w.writes) (subst (λ (m : List ℕ). ShowsMemory program m (with_words w.variable w.from (in_frame program object) held)) (sym made) w.after)

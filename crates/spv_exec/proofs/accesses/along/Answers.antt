@@ -18,7 +18,7 @@ unfolding program_of
 loop-id-preserved c = λ word comes.
     let program = program_of c.args.of.now.insts in let frame = c.args.frame.now in let ids = c.args.ids.now in let index = c.loop-id.id-index in
     let here =
-        comes_further program frame c.loop-id.at c.loop-id.held (get_or ids index 0) (drop (index + 1) ids) c.word_of.result c.in-Some.part.start _ c.in-Some.part.ty word c.word_of.ensures (λ layout known. c.in-Some.ensures layout known) refl comes in
+    comes_further program frame c.loop-id.at c.loop-id.held (get_or ids index 0) (drop (index + 1) ids) c.word_of.result c.in-Some.part.start _ c.in-Some.part.ty word c.word_of.ensures (λ layout known. c.in-Some.ensures layout known) refl comes in
     c.loop-id.invariant word (subst (λ (l : List ℕ). ComesTo program frame c.loop-id.at c.loop-id.held l word) (sym (drop_more ids index 0 c.loop-id-test.true)) here)
 
 pub returns : goal.returns

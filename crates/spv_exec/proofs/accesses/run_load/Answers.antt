@@ -32,4 +32,4 @@ returns c = λ held value shows g.
     c.copy_words.ensures (omega (arith, fits, word, c.frame_words-count.ensures)) (omega (arith, room, size, c.frame_place-to.ensures, c.frame_words-count.ensures))
     ∙ (ap (λ (n : ℕ). written frame n (words_at memory c.word_of-pointer.result c.frame_words-count.result)) c.frame_place-to.ensures
     ∙ ap (written frame (frame_place (program_of words.insts) place))
-        (ap (λ (n : ℕ). words_at memory n c.frame_words-count.result) word ∙ (ap (words_at memory _) c.frame_words-count.ensures ∙ sym copies.1)))
+    (ap (λ (n : ℕ). words_at memory n c.frame_words-count.result) word ∙ (ap (words_at memory _) c.frame_words-count.ensures ∙ sym copies.1)))

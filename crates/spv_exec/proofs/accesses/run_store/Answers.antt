@@ -50,5 +50,5 @@ returns c = λ held effect s.
     let writes = store_writes words frame memory held c.args.place effect t (λ e. c.if-pointer.false (word ∙ e)) in
     let from : c.frame_place-at.result ≡ frame_place (program_of words.insts) t.object_stands.at = c.frame_place-at.ensures ∙ ap (frame_place (program_of words.insts)) at in
     let count : c.frame_words-count.result ≡ frame_words (program_of words.insts) (inst_at words.insts t.object_stands.at) =
-        c.frame_words-count.ensures ∙ ap (λ (n : ℕ). frame_words (program_of words.insts) (inst_at words.insts n)) at in
+    c.frame_words-count.ensures ∙ ap (λ (n : ℕ). frame_words (program_of words.insts) (inst_at words.insts n)) at in
     store_at_word words frame memory c.copy_words.new.to held t.object effect t.object_stands.at c.word_of-pointer.result _ c.frame_place-at.result c.frame_words-count.result t.object_stands.words word from count writes c.copy_words.ensures
