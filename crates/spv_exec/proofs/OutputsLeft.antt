@@ -22,6 +22,7 @@ use Rattle.stage_model.specs.Stage.{size_in, is_output_with, output_with, compon
 use Rattle.typed_model.proofs.ValidTypes.{defined_within}
 use Rattle.frame_model.specs.Frame.{memory_place, variable_words}
 use Rattle.frame_model.specs.Shown.{ShowsMemory}
+use Rattle.frame_model.specs.Truths.{HoldsTruths}
 use Rattle.frame_model.proofs.FrameSizes.{memory_place_within}
 use Rattle.frame_model.proofs.ResultWords.{makes_variable}
 use Rattle.spv_exec.specs.declared.variables.Fill.{Fill}
@@ -101,13 +102,14 @@ slots_are words v memory held outputs are shows =
 
 -- ---- the memory when a run begins
 
-pub shows_filled : (insts : List Inst) (fills : List Fill) (inputs : Inputs) (buffers : Buffers) (old new : List ℕ) → length new ≡ length old → length old ≡ memory_place (program_of insts) (length insts) → AreFills (program_of insts) (length insts) fills
+pub shows_filled : (insts : List Inst) (fills : List Fill) (inputs : Inputs) (buffers : Buffers) (old new : List ℕ) → HoldsTruths (program_of insts) (first_memory (program_of insts) inputs buffers) → length new ≡ length old → length old ≡ memory_place (program_of insts) (length insts) → AreFills (program_of insts) (length insts) fills
     → ((at : ℕ) → at < length old → slice_index new at ≡ filled inputs buffers fills at) → ShowsMemory (program_of insts) new (first_memory (program_of insts) inputs buffers)
 unfolding program_of
-shows_filled insts fills inputs buffers old new same long are is = record {
+shows_filled insts fills inputs buffers old new truths same long are is = record {
   size = same ∙ long;
   shows = λ variable place k at less.
       let within = defined_within insts variable place at in
       let last = memory_place_within (program_of insts) place within in
       is (memory_place (program_of insts) place + k) (omega (arith, less, last, long)) ∙ are.held inputs buffers variable place k within at less;
+  truths = truths;
 }
