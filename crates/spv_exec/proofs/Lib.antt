@@ -8,6 +8,15 @@ pub mod Filled
 pub mod MachineSteps
 pub mod OpcodeEffects
 pub mod PhiWords
+pub mod ShiftedOffsets
+pub mod FirstOutputs
+pub mod FilledWords
+pub mod OriginWords
+pub mod FilledVariables
+pub mod OutputsLeft
+pub mod ComponentLoops
+pub mod ComponentResults
+pub mod LargeOpcodes
 pub mod CompositeRuns
 pub mod GatheredWords
 pub mod PartAnswers
@@ -28,3 +37,4 @@ pub mod StartsTo
 pub mod StepArms
 pub mod WalkRuns
 pub mod StoreWords
+pub mod SplitWords

@@ -1,4 +1,5 @@
 pub mod Accesses
+pub mod BlockOffsets
 pub mod Chains
 pub mod Branches
 pub mod Composites
@@ -8,6 +9,8 @@ pub mod FlatStage
 pub mod FlatValue
 pub mod ModuleFrames
 pub mod Opcodes
+pub mod Origins
+pub mod Outputs
 pub mod Phis
 pub mod PreparedFor
 pub mod ScalarWords

@@ -22,7 +22,7 @@ use valid_model::{Meaning, Shape};
 const OUTSIDE: u32 = 0xffff_ffff;
 
 /// The first word of an operand's value.
-fn word_of(of: &ModuleFrame<'_>, frame: &[u32], id: u32) -> u32
+pub fn word_of(of: &ModuleFrame<'_>, frame: &[u32], id: u32) -> u32
     ensures { (place : ℕ) → definition of.now.insts id ≡ Some place
         → result ≡ slice_index frame.now (frame_place (program_of of.now.insts) place) }
 {
@@ -30,7 +30,7 @@ fn word_of(of: &ModuleFrame<'_>, frame: &[u32], id: u32) -> u32
 }
 
 /// Writes a word to a place.
-fn put(frame: &mut [u32], place: usize, word: u32)
+pub fn put(frame: &mut [u32], place: usize, word: u32)
     ensures { place < length frame.old → frame.new ≡ written frame.old place (word ∷ []) }
 {
     if place < frame.len() {
@@ -39,7 +39,7 @@ fn put(frame: &mut [u32], place: usize, word: u32)
 }
 
 /// Writes so many zeros from a place on.
-fn clear_words(frame: &mut [u32], place: usize, count: usize)
+pub fn clear_words(frame: &mut [u32], place: usize, count: usize)
     ensures { place + count ≤ length frame.old → frame.new ≡ written frame.old place (replicate count 0) }
 {
     if place > frame.len() || count > frame.len() - place {

@@ -153,7 +153,7 @@ fn clear_words(count: usize, to: &mut [u32])
 }
 
 /// Writes the words of the values of ids one after another.
-fn gather_words(of: &ModuleFrame<'_>, front: &[u32], ids: &[u32], to: &mut [u32])
+pub fn gather_words(of: &ModuleFrame<'_>, front: &[u32], ids: &[u32], to: &mut [u32])
     requires fits { length (flat_map (shown_of of.now.insts front.now) ids.now) ≤ length to.old }
     requires there { (k : ℕ) → k < length ids.now → IsShown of.now.insts front.now (slice_index ids.now k) }
     ensures { to.new ≡ written to.old 0 (flat_map (shown_of of.now.insts front.now) ids.now) }

@@ -3,6 +3,7 @@
 
 mod accesses;
 mod block;
+mod block_offsets;
 mod branches;
 mod components;
 mod composites;
@@ -11,6 +12,8 @@ mod copies;
 mod member_starts;
 mod module_frame;
 mod operations;
+mod origins;
+mod outputs;
 mod phis;
 mod places;
 mod results;
