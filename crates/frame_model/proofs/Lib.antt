@@ -13,10 +13,7 @@ pub mod PartPlaces
 pub mod PartWords
 pub mod PointerWords
 pub mod OperandReads
-pub mod PartPlaces
-pub mod PartWords
 pub mod ResultWords
-pub mod OperandReads
 pub mod ScalarWords
 pub mod SelectReads
 pub mod ReadOperands
@@ -26,7 +23,4 @@ pub mod ZeroId
 pub mod LayoutParts
 pub mod LoadedWords
 pub mod MemoryAccesses
-pub mod PointerWords
 pub mod GivenComposites
-pub mod ReadOperands
-pub mod VectorWords

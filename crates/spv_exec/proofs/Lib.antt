@@ -28,13 +28,9 @@ pub mod StandEnters
 pub mod StandEnds
 pub mod StandJumps
 pub mod StandSteps
-pub mod ComponentLoops
-pub mod ComponentResults
-pub mod LargeOpcodes
 pub mod ScalarResults
 pub mod SplitWords
 pub mod StartsTo
 pub mod StepArms
 pub mod WalkRuns
 pub mod StoreWords
-pub mod SplitWords
