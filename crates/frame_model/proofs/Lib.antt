@@ -1,5 +1,6 @@
 pub mod AccessOperands
 pub mod ChainOperands
+pub mod DeclaredStructs
 pub mod FirstTruths
 pub mod FrameLimits
 pub mod FrameSizes
@@ -10,7 +11,9 @@ pub mod LayoutParts
 pub mod LoadedWords
 pub mod MemoryAccesses
 pub mod MemoryWrites
+pub mod PartPlaces
 pub mod PartWords
 pub mod PointerWords
 pub mod ResultWords
 pub mod WrittenWords
+pub mod ZeroId

@@ -14,7 +14,7 @@ use Rattle.valid_model.specs.declared.meaning.Shape.TheVariants.{Pointer as Poin
 use Rattle.valid_model.specs.Definitions.{definition, inst_at}
 use Rattle.valid_model.specs.Knowledge.{is_storage_class}
 use Rattle.valid_model.specs.Meanings.{is_constant_class, is_constant, variable_meaning, known_of, known_before, meaning}
-use Rattle.check_model.specs.Typing.{type_id}
+use Rattle.check_model.specs.Typing.{type_id, constant_word}
 use Rattle.check_model.specs.Validity.{IsValidList}
 use Rattle.stage_model.specs.Value.{Value, Pointer, Outside, Truth, Word, Composite, words_of}
 use Rattle.stage_model.specs.Program.{Program, program_of}
@@ -29,7 +29,9 @@ use Rattle.typed_model.proofs.PlainRuns.{at_op}
 use Rattle.typed_model.proofs.BlockResults.{value_known}
 use Rattle.frame_model.specs.Frame.{type_words, id_words, words_of_type, frame_words, in_frame}
 use Rattle.frame_model.specs.Written.{GivesAt}
+use Rattle.typed_model.specs.Types.{Suits}
 use Rattle.frame_model.proofs.FrameSizes.{value_size}
+use Rattle.frame_model.proofs.ZeroId.{definition_result}
 
 -- ---- by what the result means
 
@@ -185,3 +187,10 @@ gives_words words v frame held place value g =
       | by_class gives isnt found ↦ size ∙ sym (result_words words v place g.within gives isnt)
       | by_variable is whole ↦ size ∙ sym (variable_words words v place g.within is (subst (IsOfType program (word_at 0 inst)) whole g.typed))
     ]
+
+-- a value that suits an id is as long as the result that defines it
+pub suits_words : (words : Words) → IsValidList words → (id place type : ℕ) (value : Value) → definition words.insts id ≡ Some place → type_id (meaning words.insts id) ≡ Some type → Suits (program_of words.insts) (constant_word words.insts) id value
+    → length (in_frame (program_of words.insts) value) ≡ frame_words (program_of words.insts) (inst_at words.insts place)
+unfolding program_of
+suits_words words v id place type value at of suits =
+    value_size (program_of words.insts) (valid_types words v.sound) type value (suits.of_type type of) ∙ sym (by_type words.insts (inst_at words.insts place) id type (definition_result words.insts id place at) of)

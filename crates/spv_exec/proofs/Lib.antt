@@ -4,5 +4,8 @@ pub mod ChainWords
 pub mod CompositeWords
 pub mod Definitions
 pub mod Filled
+pub mod PartAnswers
 pub mod PhiWords
+pub mod PlacesTo
+pub mod StartsTo
 pub mod StoreWords

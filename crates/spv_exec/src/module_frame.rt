@@ -1,16 +1,17 @@
-ghost use Rattle.std.specs.Prelude.{◌≡◌, ◌<◌, ◌≤◌, ◌^◌, length, ℕ, Some, IfOk};
+ghost use Rattle.std.specs.Prelude.{◌≡◌, ◌<◌, ◌≤◌, ◌^◌, ◌*◌, length, ℕ, Some, IfOk};
 ghost use Rattle.spirv_model.specs.declared.module.Words.{Words};
 ghost use Rattle.check_model.specs.Validity.{IsValidList};
+ghost use Rattle.valid_model.specs.declared.meaning.Meaning.TheVariants.{Shape as OfShape};
 ghost use Rattle.valid_model.specs.Definitions.{definition, inst_at};
 ghost use Rattle.valid_model.specs.Meanings.{meaning};
-ghost use Rattle.stage_model.specs.Program.{program_of};
+ghost use Rattle.stage_model.specs.Program.{layouts_of, program_of};
 ghost use Rattle.stage_model.specs.Stage.{size_in};
-ghost use Rattle.stage_model.specs.Value.{Layout};
+ghost use Rattle.stage_model.specs.Value.{Layout, Layouts, Several, repeated};
 ghost use Rattle.frame_model.specs.Frame.{frame_place, frame_words, memory_place, variable_words};
-ghost use Rattle.spv_exec.specs.ModuleFrames.{AnswersPart, IsModuleFrame};
+ghost use Rattle.spv_exec.specs.ModuleFrames.{AnswersPart, IsModuleFrame, IsStructOf, component_part};
 
 use crate::member_starts::MemberStarts;
-use crate::places::{frame_places, memory_places};
+use crate::places::{frame_places, layout_words, memory_places};
 use spirv_model::Inst;
 use spv_check::Module;
 use std::alloc::{AllocError, Global};
@@ -45,14 +46,14 @@ impl<'m> Model for ModuleFrame<'m> {
 
 impl<'m> ModuleFrame<'m> {
     /// That of a module.
-    pub fn new(alloc: Global, module: &'m Module) -> Result<ModuleFrame<'m>, AllocError>
-        ensures { IfOk result (λ frame. frame ≡ module.now) }
+    pub fn new(alloc: Global, of: &'m Module) -> Result<ModuleFrame<'m>, AllocError>
+        ensures { IfOk result (λ frame. frame ≡ of.now) }
     {
-        let frame = frame_places(alloc, module)?;
-        let memory = memory_places(alloc, module)?;
-        let members = MemberStarts::new(alloc, module)?;
+        let frame = frame_places(alloc, of)?;
+        let memory = memory_places(alloc, of)?;
+        let members = MemberStarts::new(alloc, of)?;
         Ok(ModuleFrame {
-            module,
+            module: of,
             frame,
             memory,
             members,
@@ -92,6 +93,7 @@ impl<'m> ModuleFrame<'m> {
     }
 
     /// The words of the result of the instruction at a place.
+    #[tactic(auto, using(crate::proofs::PlacesTo::frame_step))]
     pub fn frame_words(&self, place: usize) -> usize
         requires { place < length self.now.insts }
         ensures { result ≡ frame_words (program_of self.now.insts) (inst_at self.now.insts place) }
@@ -108,6 +110,7 @@ impl<'m> ModuleFrame<'m> {
     }
 
     /// The words of the variable that the instruction at a place makes; none where it makes none.
+    #[tactic(auto, using(crate::proofs::PlacesTo::memory_step))]
     pub fn memory_words(&self, place: usize) -> usize
         requires { place < length self.now.insts }
         ensures { result ≡ variable_words (program_of self.now.insts) (inst_at self.now.insts place) }
@@ -123,10 +126,11 @@ impl<'m> ModuleFrame<'m> {
     }
 
     /// Where the value of an id begins in the frame; 0 without a definition.
+    #[tactic(auto, using(typed_model::proofs::ValidTypes::defined_within))]
     pub fn operand(&self, id: u32) -> usize
         ensures { (place : ℕ) → definition self.now.insts id ≡ Some place → result ≡ frame_place (program_of self.now.insts) place }
     {
-        match self.module.ids().place(id) {
+        match self.definition(id) {
             Some(place) => self.frame_place(place as usize),
             None => 0,
         }
@@ -143,7 +147,7 @@ impl<'m> ModuleFrame<'m> {
     pub fn type_words(&self, id: u32) -> u32
         ensures { result ≡ size_in ((program_of self.now.insts).layout id) }
     {
-        self.module.ids().size(id)
+        layout_words(self.module, id)
     }
 
     /// The part of a type of data with an index: an element, a member or a component; none where it has no such part.
@@ -151,17 +155,33 @@ impl<'m> ModuleFrame<'m> {
         ensures { (layout : Layout) → (program_of self.now.insts).layout ty ≡ Some layout
             → AnswersPart (program_of self.now.insts) layout index result }
     {
-        match self.meaning(ty) {
-            Meaning::Shape(Shape::BoolVector { comps }) => component(*comps, index),
-            Meaning::Shape(Shape::IntVector { comps, .. }) => component(*comps, index),
-            Meaning::Shape(Shape::Array { elem, len }) => self.element(*elem, *len, index),
-            Meaning::Shape(Shape::Struct { members }) => {
-                self.member(ty, members.list.as_slice(), index)
-            }
+        match self.module.ids().at(ty) {
+            Meaning::Shape(shape) => self.part_of(ty, shape, index),
             _ => None,
         }
     }
 
+    /// The part with an index of the type of this shape.
+    fn part_of(&self, ty: u32, shape: &Shape, index: u32) -> Option<Part>
+        requires valid { IsValidList self.now }
+        requires shaped { meaning self.now.insts ty ≡ OfShape shape.now }
+        ensures { (layout : Layout) → (program_of self.now.insts).layout ty ≡ Some layout
+            → AnswersPart (program_of self.now.insts) layout index result }
+    {
+        match shape {
+            Shape::BoolVector { comps } => component(*comps, index),
+            Shape::IntVector { comps, .. } => component(*comps, index),
+            Shape::Array { elem, len } => self.element(*elem, *len, index),
+            Shape::Struct { members } => self.member(ty, members.list.as_slice(), index),
+            Shape::Void
+            | Shape::Bool
+            | Shape::Int { .. }
+            | Shape::Pointer { .. }
+            | Shape::Function => None,
+        }
+    }
+
+    /// The element of an array with an index.
     fn element(&self, elem: u32, len: u32, index: u32) -> Option<Part>
         requires { len * size_in ((program_of self.now.insts).layout elem) < 2 ^ 32 }
         ensures { (of : Layout) → (program_of self.now.insts).layout elem ≡ Some of
@@ -176,23 +196,35 @@ impl<'m> ModuleFrame<'m> {
         })
     }
 
+    /// The member of a structure with an index.
     fn member(&self, ty: u32, members: &[u32], index: u32) -> Option<Part>
         requires { IsStructOf self.now ty members.now }
         ensures { (layouts : Layouts) → layouts_of (program_of self.now.insts).layout members.now ≡ Some layouts
             → AnswersPart (program_of self.now.insts) (Several layouts) index result }
     {
-        let member = members.get(index as usize)?;
-        let place = self.definition(ty)?;
-        Some(Part {
-            start: self.members.start(place as usize, index as usize),
-            ty: *member,
-        })
+        let at = index as usize;
+        if at >= members.len() {
+            return None;
+        }
+        match self.definition(ty) {
+            Some(place) => Some(Part {
+                start: self.members.start(place as usize, at),
+                ty: members[at],
+            }),
+            None => None,
+        }
     }
 }
 
-fn component(comps: u8, index: u32) -> Option<Part> {
+/// The component of a vector with an index.
+fn component(comps: u8, index: u32) -> Option<Part>
+    ensures { result ≡ component_part comps index }
+{
     if index >= u32::from(comps) {
         return None;
     }
-    Some(Part { start: index, ty: 0 })
+    Some(Part {
+        start: index,
+        ty: 0,
+    })
 }

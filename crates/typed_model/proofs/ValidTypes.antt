@@ -29,11 +29,11 @@ use Rattle.typed_model.proofs.ModuleTypes.{Fits, HaveLayout, all_fit}
 
 -- ---- no fault at any place
 
-none_of_both : (a b : Option TypeFault) → option_or a b ≡ None → (a ≡ None) × (b ≡ None)
+pub none_of_both : (a b : Option TypeFault) → option_or a b ≡ None → (a ≡ None) × (b ≡ None)
 none_of_both None b is = (refl, is)
 none_of_both (Some fault) b is = cc
 
-no_first : (fault_at : ℕ → Option TypeFault) (n place : ℕ) → first_fault fault_at n ≡ None → place < n → fault_at place ≡ None
+pub no_first : (fault_at : ℕ → Option TypeFault) (n place : ℕ) → first_fault fault_at n ≡ None → place < n → fault_at place ≡ None
 no_first fault_at zero place none less = absurd (omega arith)
 no_first fault_at (suc n) place none less =
     let e = none_of_both (first_fault fault_at n) (fault_at n) none in
