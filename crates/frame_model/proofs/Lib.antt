@@ -2,7 +2,6 @@ pub mod CompositeResults
 pub mod DeclaredStructs
 pub mod AccessOperands
 pub mod ChainOperands
-pub mod DeclaredStructs
 pub mod FirstTruths
 pub mod FrameLimits
 pub mod FrameSizes
@@ -25,13 +24,3 @@ pub mod LayoutParts
 pub mod LoadedWords
 pub mod MemoryAccesses
 pub mod GivenComposites
-pub mod LayoutParts
-pub mod LoadedWords
-pub mod MemoryAccesses
-pub mod MemoryWrites
-pub mod PartPlaces
-pub mod PartWords
-pub mod PointerWords
-pub mod ResultWords
-pub mod WrittenWords
-pub mod ZeroId

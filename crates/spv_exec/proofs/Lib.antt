@@ -33,8 +33,4 @@ pub mod SplitWords
 pub mod StartsTo
 pub mod StepArms
 pub mod WalkRuns
-pub mod PartAnswers
-pub mod PhiWords
-pub mod PlacesTo
-pub mod StartsTo
 pub mod StoreWords
