@@ -23,6 +23,7 @@ pub mod PartAnswers
 pub mod PartStarts
 pub mod PickedWords
 pub mod PlacesTo
+pub mod PreparedRuns
 pub mod ResultOpcodes
 pub mod StandEnters
 pub mod StandEnds

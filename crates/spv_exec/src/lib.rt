@@ -16,6 +16,7 @@ mod origins;
 mod outputs;
 mod phis;
 mod places;
+mod prepared;
 mod results;
 mod run;
 mod stand;
@@ -23,6 +24,7 @@ mod values;
 mod variables;
 mod walk;
 
+pub use prepared::{Prepared, run_stage};
 pub use run::run_flat;
 pub use spirv_model::{Inst, Items};
 pub use stage_model::{Ended, Kind};
