@@ -7,6 +7,7 @@ use Rattle.stage_model.specs.Program.{Program}
 use Rattle.stage_model.specs.Start.{Values, Memory}
 use Rattle.typed_model.specs.Types.{Suits}
 use Rattle.frame_model.specs.Frame.{frame_words, frame_place, memory_place, variable_words, in_frame}
+use Rattle.frame_model.specs.Truths.{HoldsTruths}
 
 -- so many words of a list from a place on
 abbrev pub words_at : List ℕ → (place count : ℕ) → List ℕ
@@ -26,8 +27,9 @@ pub record Shows (program : Program) (frame : List ℕ) (values : Values) : Type
   pub suits : (id : ℕ) (value : Value) → values id ≡ Some value → Suits program (constant_word program.insts) id value
   pub stands : (id place : ℕ) (value : Value) → definition program.insts id ≡ Some place → values id ≡ Some value → StandsAt program frame place value
 
--- the memory has room for all variables of a module, and shows each of their words
+-- the memory has room for all variables of a module, and shows each of their words; truth values are 0 or 1
 pub record ShowsMemory (program : Program) (words : List ℕ) (memory : Memory) : Type 0 where
   pub size : length words ≡ memory_place program (length program.insts)
   pub shows : (variable place k : ℕ) → definition program.insts variable ≡ Some place → k < variable_words program (inst_at program.insts place)
       → slice_index words (memory_place program place + k) ≡ memory variable k
+  pub truths : HoldsTruths program memory

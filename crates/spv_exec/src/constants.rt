@@ -1,9 +1,17 @@
-ghost use Rattle.std.specs.Prelude.{◌≡◌, Some, IfOk, take};
+ghost use Rattle.std.specs.Prelude.{◌≡◌, ◌+◌, ◌<◌, false, Some, IfOk, replicate, length};
 ghost use Rattle.stage_model.specs.Program.{program_of};
 ghost use Rattle.stage_model.specs.Stage.{first_label};
-ghost use Rattle.spv_exec.specs.FirstFrames.{IsFirstFrame};
+ghost use Rattle.stage_model.specs.Start as start;
+ghost use Rattle.typed_model.specs.Modules.{IsFront};
+ghost use Rattle.valid_model.specs.Definitions.{inst_at};
+ghost use Rattle.spv_exec.specs.FirstFrames as first;
+ghost use Rattle.spv_exec.specs.FirstFrames.{DefinesWord, IsDefined, IsFirstFrame};
 
+use crate::accesses::{clear_words, put, word_of};
+use crate::composites::gather_words;
 use crate::module_frame::ModuleFrame;
+use crate::operations::scalar_word;
+use spirv_model::{Inst, op};
 use state_model::SpecValues;
 use std::alloc::{AllocError, Global};
 
@@ -17,8 +25,142 @@ pub fn first_frame(
     requires { first_label of.now.insts ≡ Some first }
     ensures { IfOk result (λ frame. IsFirstFrame (program_of of.now.insts) values.now first frame.items) }
 {
-    let frame = Vec::new(alloc);
-    let _at = of.frame_place(first);
-    let _entries = &values.entries;
+    let _module = of.module();
+    let mut frame = zeros(alloc, of.frame_place(of.count()))?;
+    for place in 0..first {
+        define(of, place, values, frame.as_mut_slice());
+    }
     Ok(frame)
+}
+
+/// So many zeros.
+pub fn zeros(alloc: Global, count: usize) -> Result<Vec<u32>, AllocError>
+    ensures { IfOk result (λ words. words.items ≡ replicate count 0) }
+{
+    let mut words = Vec::new(alloc);
+    for _ in 0..count {
+        words.push(0)?;
+    }
+    Ok(words)
+}
+
+/// Writes the value that the instruction at a place of the module's level gives its result, if it gives one.
+fn define(of: &ModuleFrame<'_>, place: usize, values: &SpecValues, frame: &mut [u32])
+    requires within { place < length of.now.insts }
+    requires front { IsFront of.now (place + 1) }
+    requires before { IsDefined of.now.insts values.now place frame.old }
+    ensures { IsDefined of.now.insts values.now (place + 1) frame.new }
+{
+    let _module = of.module();
+    let inst = of.inst(place);
+    if !defines_value(inst.op) {
+        return;
+    }
+    let at = of.frame_place(place);
+    if defines_zeros(inst.op) {
+        clear_words(frame, at, of.frame_words(place));
+        return;
+    }
+    if defines_composite(inst.op) {
+        let (front, to) = frame.split_at_mut(at);
+        gather_words(of, front, inst.words_from(2), to);
+        return;
+    }
+    let word = defined_word(of, place, values, frame);
+    put(frame, at, word);
+}
+
+/// The instruction gives its result a value, on the module's level.
+fn defines_value(op: u16) -> bool
+    ensures { result ≡ first.defines_value op }
+{
+    matches!(
+        op,
+        op::CONSTANT_TRUE
+            | op::CONSTANT_FALSE
+            | op::CONSTANT
+            | op::SPEC_CONSTANT_TRUE
+            | op::SPEC_CONSTANT_FALSE
+            | op::SPEC_CONSTANT
+            | op::SPEC_CONSTANT_OP
+            | op::VARIABLE
+    ) || defines_zeros(op)
+        || defines_composite(op)
+}
+
+/// All words of the value are zeros.
+fn defines_zeros(op: u16) -> bool
+    ensures { result ≡ first.defines_zeros op }
+{
+    op == op::CONSTANT_NULL || op == op::UNDEF
+}
+
+/// The value is made of other values.
+fn defines_composite(op: u16) -> bool
+    ensures { result ≡ first.defines_composite op }
+{
+    op == op::CONSTANT_COMPOSITE || op == op::SPEC_CONSTANT_COMPOSITE
+}
+
+/// The word of a value that is one.
+fn defined_word(of: &ModuleFrame<'_>, place: usize, values: &SpecValues, frame: &[u32]) -> u32
+    requires within { place < length of.now.insts }
+    requires zeros { first.defines_zeros (inst_at of.now.insts place).op ≡ false }
+    requires composite { first.defines_composite (inst_at of.now.insts place).op ≡ false }
+    requires before { IsDefined of.now.insts values.now place frame.now }
+    ensures { DefinesWord of.now.insts values.now place result }
+{
+    let inst = of.inst(place);
+    let id = inst.word(1);
+    match inst.op {
+        op::CONSTANT_TRUE => 1,
+        op::CONSTANT => inst.word(2),
+        op::SPEC_CONSTANT_TRUE => u32::from(specialized(of, values, id).unwrap_or(1) != 0),
+        op::SPEC_CONSTANT_FALSE => u32::from(specialized(of, values, id).unwrap_or(0) != 0),
+        op::SPEC_CONSTANT => specialized(of, values, id).unwrap_or(inst.word(2)),
+        op::SPEC_CONSTANT_OP => operation_word(of, inst, frame),
+        op::VARIABLE => of.memory_place(place) as u32,
+        _ => 0,
+    }
+}
+
+/// The word of an OpSpecConstantOp.
+fn operation_word(of: &ModuleFrame<'_>, inst: &Inst, frame: &[u32]) -> u32 {
+    let opcode = inst.word(2);
+    let ids = inst.words_from(3);
+    match *ids {
+        [a] => scalar_word(opcode, &[word_of(of, frame, a)]),
+        [a, b] => scalar_word(opcode, &[word_of(of, frame, a), word_of(of, frame, b)]),
+        [a, b, c] => {
+            let words = [
+                word_of(of, frame, a),
+                word_of(of, frame, b),
+                word_of(of, frame, c),
+            ];
+            scalar_word(opcode, &words)
+        }
+        _ => 0,
+    }
+}
+
+/// The word that specialization gives an id, by its SpecId.
+fn specialized(of: &ModuleFrame<'_>, values: &SpecValues, id: u32) -> Option<u32>
+    ensures { result ≡ start.specialized (program_of of.now.insts) values.now id }
+{
+    let number = of.module().ids().spec_id(id)?;
+    entry_word(values, number)
+}
+
+/// The word of the first entry with this id.
+fn entry_word(values: &SpecValues, id: u32) -> Option<u32>
+    ensures { result ≡ start.entry_word values.now.entries id }
+{
+    for entry in &values.entries {
+        if let Some(entry) = entry {
+            if entry.id == id {
+                return Some(entry.value);
+            }
+        }
+    }
+    None
 }

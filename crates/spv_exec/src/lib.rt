@@ -3,16 +3,28 @@
 
 mod accesses;
 mod block;
+mod block_offsets;
+mod branches;
+mod components;
 mod composites;
 mod constants;
+mod copies;
 mod member_starts;
 mod module_frame;
 mod operations;
+mod origins;
+mod outputs;
+mod phis;
 mod places;
+mod prepared;
+mod results;
 mod run;
+mod stand;
 mod values;
 mod variables;
+mod walk;
 
+pub use prepared::{Prepared, run_stage};
 pub use run::run_flat;
 pub use spirv_model::{Inst, Items};
 pub use stage_model::{Ended, Kind};

@@ -1,1 +1,2 @@
 pub mod Modulos
+pub mod ScalarWords

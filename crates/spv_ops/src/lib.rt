@@ -5,11 +5,13 @@ ghost use Rattle.std.specs.Prelude.{◌≡◌, IsSome};
 ghost use Rattle.scalar_model.specs.Scalars.{scalar_result, folded, selected};
 ghost use Rattle.spv_ops.specs.Results.{result_of_words};
 
+mod scalar_words;
 mod truths;
 mod words;
 
 use Scalar::{Bool, Word};
 pub use scalar_model::Scalar;
+pub use scalar_words::{binary_word, result_word, unary_word};
 use spirv_model::op;
 use truths::{comparison, truth_from_truth, truth_from_truths};
 use words::{word_from_word, word_from_words};

@@ -24,7 +24,10 @@ pub fn word_from_word(op: u16, word: u32) -> Option<u32>
 pub fn word_from_words(op: u16, left: u32, right: u32) -> Option<u32>
     ensures { result ≡ option_map (λ f. f left right) (word_from_words op) }
 {
-    arithmetic(op, left, right).or(bitwise(op, left, right))
+    match arithmetic(op, left, right) {
+        Some(word) => Some(word),
+        None => bitwise(op, left, right),
+    }
 }
 
 #[tactic(auto, unfolding(scalar_model::specs::Scalars::arithmetic))]

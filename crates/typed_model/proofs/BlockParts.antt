@@ -206,6 +206,42 @@ rest_parts may scope header phis variables none (inst ∷ rest) place =
     (λ is. further may inst rest place _ (other_part may is_plain plain_tests inst is (a_plain_one is)) (rest_parts may scope header false false (λ _. refl) rest (place + 1)))
     (λ _. last_parts may scope header inst rest place)))
 
+-- ---- phis come first
+
+-- behind an instruction that is no phi stands none, up to the block's end
+pub record PhisFirst (insts : List Inst) (place : ℕ) (end : BlockEnd) : Type 0 where
+  pub first : (index : ℕ) (inst other : Inst) → slice_get insts index ≡ Some inst → slice_get insts (suc index) ≡ Some other → place + suc index < after_of end → inst.op == PHI ≡ false → other.op == PHI ≡ false
+
+abbrev HasPhisFirst : List Inst → ℕ → BlockEnd → Type 0
+HasPhisFirst insts place end = IsWhole end → PhisFirst insts place end
+
+-- no phi stands behind
+no_later : (inst : Inst) (rest : List Inst) (place : ℕ) (end : BlockEnd) → HasParts false rest (place + 1) end → HasPhisFirst (inst ∷ rest) place end
+no_later inst rest place end more whole = record { first = λ index found other at behind less isnt. ((more whole).parts index other behind (omega (arith, less))).no_phi refl }
+
+none_here : (inst : Inst) (rest : List Inst) (place : ℕ) (end : BlockEnd) → HasParts false (inst ∷ rest) place end → HasPhisFirst (inst ∷ rest) place end
+none_here inst rest place end all whole = record { first = λ index found other at behind less isnt. ((all whole).parts (suc index) other behind less).no_phi refl }
+
+-- a phi in front
+phi_before : (inst : Inst) (rest : List Inst) (place : ℕ) (end : BlockEnd) → inst.op == PHI ≡ true → HasPhisFirst rest (place + 1) end → HasPhisFirst (inst ∷ rest) place end
+phi_before inst rest place end is more whole = record { first = all }
+  where
+    all : (index : ℕ) (found other : Inst) → slice_get (inst ∷ rest) index ≡ Some found → slice_get (inst ∷ rest) (suc index) ≡ Some other → place + suc index < after_of end → found.op == PHI ≡ false → other.op == PHI ≡ false
+    all zero found other at behind less isnt = absurd (clash (inst.op == PHI) is (ap (λ (i : Inst). i.op == PHI) (same_inst inst found at) ∙ isnt))
+    all (suc index) found other at behind less isnt = (more whole).first index found other at behind (omega (arith, less)) isnt
+
+rest_phis : (scope : Scope) (header : ℕ) (phis variables : Bool) (rest : List Inst) (place : ℕ) → HasPhisFirst rest place (rest_of_block scope header phis variables rest place)
+rest_phis scope header phis variables [] place = λ whole. absurd whole
+rest_phis scope header phis variables (inst ∷ rest) place =
+    let P = HasPhisFirst (inst ∷ rest) place in
+    choose P (inst.op == PHI)
+    (λ is. choose P phis (λ _. phi_before inst rest place _ is (rest_phis scope header phis false rest (place + 1))) (λ _ whole. absurd whole))
+    (λ _. choose P (inst.op == VARIABLE)
+    (λ is. choose P variables (λ _. no_later inst rest place _ (rest_parts false scope header false variables (λ _. refl) rest (place + 1))) (λ _ whole. absurd whole))
+    (λ _. choose P (is_plain inst.op)
+    (λ is. no_later inst rest place _ (rest_parts false scope header false false (λ _. refl) rest (place + 1)))
+    (λ _. none_here inst rest place _ (last_parts false scope header inst rest place))))
+
 -- ---- all of it
 
 -- phis may stand in some block of the scope
@@ -223,10 +259,17 @@ no_phis Anywhere is_header none = cc
 pub record BlockUpTo (may : Bool) (insts : List Inst) (place : ℕ) (end : BlockEnd) : Type 0 where
   pub parts : (index : ℕ) (inst : Inst) → slice_get insts index ≡ Some inst → place + index < after_of end → BlockPart inst
   pub later : (index : ℕ) (inst : Inst) → slice_get insts (suc index) ≡ Some inst → place + suc index < after_of end → LaterPart may inst
+  -- phis stand behind the label or other phis
+  pub phis : (index : ℕ) (inst other : Inst) → slice_get insts index ≡ Some inst → slice_get insts (suc index) ≡ Some other → place + suc index < after_of end → inst.op == LABEL ≡ false → inst.op == PHI ≡ false → other.op == PHI ≡ false
 
-whole_block : (may : Bool) (inst : Inst) (rest : List Inst) (place : ℕ) (end : BlockEnd) → inst.op == LABEL ≡ true → PartsUpTo may rest (place + 1) end → BlockUpTo may (inst ∷ rest) place end
-whole_block may inst rest place end is more = record { parts = all; later = λ index found at less. more.parts index found at (omega (arith, less)) }
+whole_block : (may : Bool) (inst : Inst) (rest : List Inst) (place : ℕ) (end : BlockEnd) → inst.op == LABEL ≡ true → PartsUpTo may rest (place + 1) end → PhisFirst rest (place + 1) end → BlockUpTo may (inst ∷ rest) place end
+whole_block may inst rest place end is more behind = record { parts = all; later = λ index found at less. more.parts index found at (omega (arith, less)); phis = later_phis }
   where
+    later_phis : (index : ℕ) (found other : Inst) → slice_get (inst ∷ rest) index ≡ Some found → slice_get (inst ∷ rest) (suc index) ≡ Some other → place + suc index < after_of end → found.op == LABEL ≡ false → found.op == PHI ≡ false
+        → other.op == PHI ≡ false
+    later_phis zero found other at next less no_label no_phi = absurd (clash (inst.op == LABEL) is (ap (λ (i : Inst). i.op == LABEL) (same_inst inst found at) ∙ no_label))
+    later_phis (suc index) found other at next less no_label no_phi = behind.first index found other at next (omega (arith, less)) no_phi
+
     all : (index : ℕ) (found : Inst) → slice_get (inst ∷ rest) index ≡ Some found → place + index < after_of end → BlockPart found
     all zero found at less = subst BlockPart (same_inst inst found at) (a_label is)
     all (suc index) found at less = (more.parts index found at (omega (arith, less))).part
@@ -239,4 +282,6 @@ block_parts insts scope wanted place end due is whole =
     let B : List Inst → BlockEnd → Type 0 = λ l end. BlockUpTo (has_phis scope.phis) l place end in
     let e : block_from scope (s.inst ∷ s.more) place ≡ end = sym (ap (λ (l : List Inst). block_from scope l place) s.front) ∙ is in
     let rest = rest_parts (has_phis scope.phis) scope (slice_index s.inst.words 0) (may_have_phis scope.phis (leads_to_loop s.more)) scope.first (no_phis scope.phis (leads_to_loop s.more)) s.more (place + 1) in
-    subst (λ l. B l end) (sym s.front) (whole_block (has_phis scope.phis) s.inst s.more place end s.label (subst (HasParts (has_phis scope.phis) s.more (place + 1)) e rest whole))
+    let phis = rest_phis scope (slice_index s.inst.words 0) (may_have_phis scope.phis (leads_to_loop s.more)) scope.first s.more (place + 1) in
+    subst (λ l. B l end) (sym s.front)
+    (whole_block (has_phis scope.phis) s.inst s.more place end s.label (subst (HasParts (has_phis scope.phis) s.more (place + 1)) e rest whole) (subst (HasPhisFirst s.more (place + 1)) e phis whole))

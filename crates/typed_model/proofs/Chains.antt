@@ -173,7 +173,7 @@ step_by program types constant vertex type index value next whole (OfShape (Stru
     struct_step program constant index value members.list next whole (layouts_of program.layout members.list) refl (sym (types.shaped type (Struct members) is) ∙ known) so suits
 step_by program types constant vertex type index value next whole m is known so suits = cc
 
-step_is : (program : Program) → HasTypes program → (constant : ℕ → Option ℕ) (vertex : Bool) (index : ℕ) (value : Value) (reached next : Part) (whole : Layout) → part_layout program reached ≡ Some whole
+pub step_is : (program : Program) → HasTypes program → (constant : ℕ → Option ℕ) (vertex : Bool) (index : ℕ) (value : Value) (reached next : Part) (whole : Layout) → part_layout program reached ≡ Some whole
     → chain_step (typing_in program constant vertex) index reached ≡ Some next → Suits program constant index value → ChainStep program whole value next
 step_is program types constant vertex index value (part.Type type) next whole known so suits = step_by program types constant vertex type index value next whole (program.meaning type) refl known so suits
 step_is program types constant vertex index value (part.Component component) next whole known so suits = cc
@@ -186,7 +186,7 @@ pub record ChainAlong (program : Program) (whole : Layout) (values : List Value)
   pub are : all_words values ≡ Some words
   pub same : (place : ℕ) (found : Layout) → part_along whole words ≡ Some (place, found) → part_layout program reached ≡ Some found
 
-nowhere : (typing : Typing) (indices : List ℕ) → chain_along typing None indices ≡ None
+pub nowhere : (typing : Typing) (indices : List ℕ) → chain_along typing None indices ≡ None
 nowhere typing [] = refl
 nowhere typing (index ∷ indices) = nowhere typing indices
 
@@ -199,7 +199,7 @@ step_along program whole value values next reached s rest = record {
       rest.same i.3.0 found (ap (λ l. part_along l rest.words) (sym (s.same i.0 i.1 i.2)) ∙ i.3.1);
 }
 
-along_is : (program : Program) → HasTypes program → (constant : ℕ → Option ℕ) (vertex : Bool) (ids : List ℕ) (values : List Value) (from to : Part) (whole : Layout) → part_layout program from ≡ Some whole
+pub along_is : (program : Program) → HasTypes program → (constant : ℕ → Option ℕ) (vertex : Bool) (ids : List ℕ) (values : List Value) (from to : Part) (whole : Layout) → part_layout program from ≡ Some whole
     → chain_along (typing_in program constant vertex) (Some from) ids ≡ Some to → AllSuit program constant ids values → ChainAlong program whole values to
 along_is program types constant vertex [] [] from to whole known is suit = record {
   words = [];
@@ -273,7 +273,7 @@ pointer_to program types constant vertex (OfShape (PointerType own to)) class re
 )
 pointer_to program types constant vertex m class reached is = cc
 
-rule_by : (program : Program) → HasTypes program → (constant : ℕ → Option ℕ) (vertex : Bool) (type base : ℕ) (indices : List ℕ) (m : Meaning) → program.meaning base ≡ m → chain_fits (typing_in program constant vertex) type m indices ≡ true
+pub rule_by : (program : Program) → HasTypes program → (constant : ℕ → Option ℕ) (vertex : Bool) (type base : ℕ) (indices : List ℕ) (m : Meaning) → program.meaning base ≡ m → chain_fits (typing_in program constant vertex) type m indices ≡ true
     → ChainRule program constant vertex type base indices
 rule_by program types constant vertex type base indices (Variable held class) is fit =
     let v = types.variable base held class is in

@@ -3,7 +3,7 @@ use Rattle.std.proofs.Common.{◌≡◌, ℕ, zero, suc, ◌+◌, ◌-◌, ◌<�
 use Rattle.std.specs.Prelude.{slice_get}
 use Rattle.std.proofs.lemmas.Bool.{cases_lt}
 use Rattle.spirv_model.specs.declared.module.Inst.{Inst}
-use Rattle.spirv_model.specs.declared.op.TheConstants.{LABEL}
+use Rattle.spirv_model.specs.declared.op.TheConstants.{LABEL, PHI}
 use Rattle.body_model.specs.declared.block_end.BlockEnd.{BlockEnd}
 use Rattle.body_model.specs.declared.block_end.BlockEnd.TheVariants as way
 use Rattle.body_model.specs.Classes.{is_terminator}
@@ -26,7 +26,8 @@ pub record LabelAt (insts : List Inst) (place : ℕ) : Type 0 where
   pub at : slice_get insts place ≡ Some inst
   pub is : inst.op == LABEL ≡ true
 
--- a part of a block stands at the place; a label behind it, where it is a terminator that isn't the last one up to an end; and else a further part, which is no label
+-- a part of a block stands at the place; a label behind it, where it is a terminator that isn't the last one up to an end; and else a further part, which is no label, and a phi only behind a
+-- label or a phi
 pub record Fits (insts : List Inst) (to place : ℕ) : Type 0 where
   pub inst : Inst
   pub at : slice_get insts place ≡ Some inst
@@ -34,6 +35,7 @@ pub record Fits (insts : List Inst) (to place : ℕ) : Type 0 where
   pub on : is_terminator inst.op ≡ false → place + 1 < to
   pub inside : is_terminator inst.op ≡ false → (other : Inst) → slice_get insts (place + 1) ≡ Some other → other.op == LABEL ≡ false
   pub next : is_terminator inst.op ≡ true → place + 1 < to → LabelAt insts (place + 1)
+  pub phis : is_terminator inst.op ≡ false → inst.op == LABEL ≡ false → inst.op == PHI ≡ false → (other : Inst) → slice_get insts (place + 1) ≡ Some other → other.op == PHI ≡ false
 
 -- parts of blocks stand from a place up to another one, a label first
 pub record Fills (insts : List Inst) (from to : ℕ) : Type 0 where
@@ -47,6 +49,7 @@ fits_on insts middle to place less more f starts = record {
   part = f.part;
   on = λ isnt. omega (arith, f.on isnt, more);
   inside = f.inside;
+  phis = f.phis;
   next = λ is low. elim (cases_lt (place + 1) middle) [
     | inl early ↦ f.next is early
     | inr late ↦ elim starts [
@@ -99,6 +102,10 @@ block_fits insts scope wanted from end due is whole place low high =
           let n : from + suc (place - from) ≡ place + 1 = omega (arith, e) in
           let less = on found.0 found.1 isnt in
           ((block_parts insts scope wanted from end due is whole).later (place - from) other (slice_get-drop from (suc (place - from)) insts ∙ ap (slice_get insts) n ∙ behind) (omega (arith, n, less))).no_label;
+      phis = λ isnt no_label no_phi other behind.
+          let n : from + suc (place - from) ≡ place + 1 = omega (arith, e) in
+          let less = on found.0 found.1 isnt in
+          (block_parts insts scope wanted from end due is whole).phis (place - from) found.0 other here (slice_get-drop from (suc (place - from)) insts ∙ ap (slice_get insts) n ∙ behind) (omega (arith, n, less)) no_label no_phi;
       next = λ ending more. let l = block_last insts scope from end b place found.0 low high at ending in absurd (omega (arith, l.0, more));
     }
   where

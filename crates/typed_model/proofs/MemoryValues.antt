@@ -124,7 +124,7 @@ store_by program class to words (Truth b) is = absurd is
 store_by program class to words (Word word) is = absurd is
 store_by program class to words (Composite parts) is = absurd is
 
-object_by : (program : Program) (constant : ℕ → Option ℕ) (vertex : Bool) (to : Option ℕ) (object : ℕ) → is_object_of (typing_in program constant vertex) to object ≡ true → (type : ℕ) × (to ≡ Some type) × (type_id (program.meaning object) ≡ Some type)
+pub object_by : (program : Program) (constant : ℕ → Option ℕ) (vertex : Bool) (to : Option ℕ) (object : ℕ) → is_object_of (typing_in program constant vertex) to object ≡ true → (type : ℕ) × (to ≡ Some type) × (type_id (program.meaning object) ≡ Some type)
 object_by program constant vertex None object is = cc
 object_by program constant vertex (Some type) object is = (type, refl, word_is type _ is)
 

@@ -161,6 +161,21 @@ scalar_reads opcode before words operation is =
     skip _ (opcode == op.PHI) u.phi ∙ (skip _ (opcode == op.LOAD) u.load ∙ (skip _ (opcode == op.STORE) u.store ∙ (skip _ (opcode == op.VECTOR_SHUFFLE) u.shuffle ∙ (skip _ (opcode == op.COMPOSITE_EXTRACT) u.extract ∙ (skip _ (opcode == op.COMPOSITE_INSERT) u.insert
     ∙ (skip _ (opcode == op.BRANCH_CONDITIONAL) u.conditional ∙ (skip _ (opcode == op.SWITCH) u.switch ∙ take_it _ ((opcode == op.ACCESS_CHAIN) || is_operation_class (class_of opcode)) (or_right (opcode == op.ACCESS_CHAIN) _ (ap is_operation_class is)))))))))
 
+-- a scalar operation gives its result
+pub scalar_effect : (program : Program) (memory : Memory) (inst : Inst) (values : List Value) (operation_class : ScalarClass) → class_of inst.op ≡ Some (class.Scalar operation_class)
+    → effect_of program memory inst values ≡ option_map Gives (operation inst.op values)
+scalar_effect program memory inst values operation_class is =
+    let o = operation_by_class operation_class inst.op is in
+    let u = unnamed inst.op o.no_result o.no_effect in
+    effect_is program memory inst values u (ap has_result_class is) ∙ ap (option_map Gives) (operation_is program memory inst.op (slice_index inst.words 0) (drop 2 inst.words) values u)
+
+-- and is no reduction
+pub no_reduction : (opcode : ℕ) (operation_class : ScalarClass) → class_of opcode ≡ Some (class.Scalar operation_class) → (opcode == op.ANY ≡ false) × (opcode == op.ALL ≡ false)
+no_reduction opcode operation_class is =
+    let o = operation_by_class operation_class opcode is in
+    let u = unnamed opcode o.no_result o.no_effect in
+    (u.any, u.all)
+
 pub scalar_runs : (program : Program) → HasTypes program → (constant : ℕ → Option ℕ) (vertex : Bool) (memory : Memory) (before : ℕ) (inst : Inst) (values : List Value) (operation : ScalarClass) → class_of inst.op ≡ Some (class.Scalar operation)
     → RunsWhere program constant memory before values (scalar_operands_fit (typing_in program constant vertex) operation (slice_index inst.words 0) (drop 2 inst.words)) inst
 scalar_runs program types constant vertex memory before inst values operation is has fit suit =

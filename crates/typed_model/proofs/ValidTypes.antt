@@ -14,6 +14,8 @@ use Rattle.valid_model.specs.declared.meaning.Meaning.TheVariants.{Absent, Shape
 use Rattle.valid_model.specs.declared.meaning.Shape.{Shape}
 use Rattle.valid_model.specs.declared.meaning.Shape.TheVariants.{Void, Bool as Truth, Int, BoolVector, IntVector, Pointer}
 use Rattle.valid_model.specs.declared.type_fault.TypeFault.{TypeFault}
+use Rattle.valid_model.specs.declared.type_fault.TypeFault.TheVariants.{BadDecoration}
+use Rattle.valid_model.specs.Decorations.{bad_decoration}
 use Rattle.valid_model.specs.Definitions.{gives, definition, id_twice, id_out_of_bound, inst_at}
 use Rattle.valid_model.specs.Knowledge.{Knowledge, a_type, means, meaning_in, is_storage_class}
 use Rattle.valid_model.specs.Types.{is_type, vector_shape, struct_size, type_of, is_pointer_of, breaks_types, has_later_type}
@@ -60,6 +62,16 @@ keeps_rules words sound place within =
     let none = none_of_both (rule_fault words place) _ (no_first (type_fault_at words) (length words.insts) place sound within) in
     let r = no_rule place (id_twice words.insts place) (id_out_of_bound words.bound (inst_at words.insts place)) (bad_type words.insts place) (bad_constant words.insts place) none.0 in
     record { once = r.0; types = neither (breaks_types (known_before words.insts place) (inst_at words.insts place)) (has_later_type words.insts place) r.1; constants = r.2 }
+
+no_decoration : (place : ℕ) (bad : Bool) → (if bad then Some (BadDecoration place) else None) ≡ None → bad ≡ false
+no_decoration place true is = cc
+no_decoration place false is = refl
+
+-- no decoration and no variable is bad
+pub keeps_decorations : (words : Words) → type_fault words ≡ None → (place : ℕ) → place < length words.insts → bad_decoration words.insts place ≡ false
+unfolding type_fault
+keeps_decorations words sound place within =
+    no_decoration place (bad_decoration words.insts place) (none_of_both (rule_fault words place) _ (no_first (type_fault_at words) (length words.insts) place sound within)).1
 
 -- ---- variables
 
@@ -116,16 +128,16 @@ untyped known inst =
     (choose_type (inst.op == op.TYPE_FUNCTION) (a_choice _ _ _) no_type)))))))
 
 -- OpVariable with this type and class
-record MakesVariable (inst : Inst) (type class : ℕ) : Type 0 where
-  no_type : is_type inst.op ≡ false
-  is : inst.op == op.VARIABLE ≡ true
-  of : word_at 0 inst ≡ type
-  in_class : word_at 2 inst ≡ class
+pub record MakesVariable (inst : Inst) (type class : ℕ) : Type 0 where
+  pub no_type : is_type inst.op ≡ false
+  pub is : inst.op == op.VARIABLE ≡ true
+  pub of : word_at 0 inst ≡ type
+  pub in_class : word_at 2 inst ≡ class
 
 same_variable : (a b type class : ℕ) → ◌≡◌ {A = Meaning} (Variable a b) (Variable type class) → (a ≡ type) × (b ≡ class)
 same_variable a b type class is = (cc, cc)
 
-makes_variable : (known : Knowledge) (inst : Inst) (type class : ℕ) → (known_of known inst).meaning ≡ Variable type class → MakesVariable inst type class
+pub makes_variable : (known : Knowledge) (inst : Inst) (type class : ℕ) → (known_of known inst).meaning ≡ Variable type class → MakesVariable inst type class
 unfolding known_of
 makes_variable known inst type class is =
     by_tests known inst type class (is_type inst.op) (is_constant inst.op) (inst.op == op.VARIABLE) (is_storage_class (word_at 2 inst)) (inst.op == op.LABEL) _ refl refl is
