@@ -24,3 +24,6 @@ pub mod ScalarResults
 pub mod StartsTo
 pub mod StoreWords
 pub mod SplitWords
+pub mod ModuleVariables
+pub mod DefinedValues
+pub mod DefineSteps
