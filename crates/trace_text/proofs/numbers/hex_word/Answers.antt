@@ -1,6 +1,6 @@
 use Rattle.std.proofs.Common.{arith}
 use Rattle.trace_text.proofs.Values.{hex_fits}
-use Rattle.trace_text.proofs.numbers.word_value.Goals as goal
+use Rattle.trace_text.proofs.numbers.hex_word.Goals as goal
 
 pub overflow_add-value : goal.overflow_add-value
 overflow_add-value c =
