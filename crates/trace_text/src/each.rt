@@ -1,6 +1,5 @@
 //! What several fields of a line say.
-ghost use Rattle.std.specs.Prelude.{◌≡◌, IfOk};
-ghost use Rattle.std.specs.Option.{option_map};
+ghost use Rattle.std.specs.Prelude.{◌≡◌, ◌≤◌, ℕ, IfOk, IfSome, List, Option, length};
 ghost use Rattle.trace_model.specs.Fields as spec;
 
 use crate::field_cursor::FieldCursor;
@@ -133,6 +132,63 @@ pub fn each<'a, T: FieldValue<'a>>(
             return Ok(None);
         };
         values.push(value)?;
+    }
+    Ok(Some(values))
+}
+
+/// The same of exactly so many fields.
+#[tactic(auto, using(crate::proofs::Counts::counted))]
+pub fn exactly<'a, T: FieldValue<'a>>(
+    alloc: Global,
+    count: usize,
+    fields: &mut FieldCursor<'a>,
+) -> Result<Option<Items<T>>, AllocError>
+    ensures values { IfOk result (λ values. values ≡ spec.exactly count T.value fields.old) }
+    ensures count { IfOk result (λ values. IfSome values (λ xs. length xs ≡ count)) }
+{
+    let Some(values) = each::<T>(alloc, fields)? else {
+        return Ok(None);
+    };
+    if values.len() != count {
+        return Ok(None);
+    }
+    Ok(Some(values))
+}
+
+/// The same of at most so many fields.
+#[tactic(auto, using(crate::proofs::Counts::counted))]
+pub fn at_most<'a, T: FieldValue<'a>>(
+    alloc: Global,
+    count: usize,
+    fields: &mut FieldCursor<'a>,
+) -> Result<Option<Items<T>>, AllocError>
+    ensures values { IfOk result (λ values. values ≡ spec.at_most count T.value fields.old) }
+    ensures count { IfOk result (λ values. IfSome values (λ xs. length xs ≤ count)) }
+{
+    let Some(values) = each::<T>(alloc, fields)? else {
+        return Ok(None);
+    };
+    if values.len() > count {
+        return Ok(None);
+    }
+    Ok(Some(values))
+}
+
+/// The same of at least one field and at most so many.
+#[tactic(auto, using(crate::proofs::Counts::counted))]
+pub fn some_of<'a, T: FieldValue<'a>>(
+    alloc: Global,
+    count: usize,
+    fields: &mut FieldCursor<'a>,
+) -> Result<Option<Items<T>>, AllocError>
+    ensures values { IfOk result (λ values. values ≡ spec.some_of count T.value fields.old) }
+    ensures count { IfOk result (λ values. IfSome values (λ xs. length xs ≤ count)) }
+{
+    let Some(values) = at_most::<T>(alloc, count, fields)? else {
+        return Ok(None);
+    };
+    if values.len() == 0 {
+        return Ok(None);
     }
     Ok(Some(values))
 }

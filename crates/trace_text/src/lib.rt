@@ -7,9 +7,13 @@ mod field_values;
 mod form;
 mod modules;
 mod number;
+mod library_lines;
 mod parts;
+mod places;
 mod numbers;
 mod print;
+mod recorder_lines;
+mod setup_lines;
 
 
 pub use form::read_trace;
