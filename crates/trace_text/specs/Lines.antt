@@ -17,9 +17,13 @@ abbrev pub is_memory : Cause → Bool
 is_memory Memory = true
 is_memory cause = false
 
--- what is read, seen by a view, is what the line says, or it says nothing
+-- what is read, seen by a view, is what is said, or nothing is said
+abbrev pub Reads : {X Y : Type 0} → (X → Y) → Result X Cause → Option Y → Type 0
+Reads view answer said = UnlessMemory is_memory (λ x. said ≡ Some (view x)) (λ cause. (cause ≡ BadLine) × (said ≡ None)) answer
+
+-- the same of what a line says
 abbrev pub Says : {X : Type 0} → (X → Line) → Result X Cause → Option Line → Type 0
-Says view answer said = UnlessMemory is_memory (λ x. said ≡ Some (view x)) (λ cause. (cause ≡ BadLine) × (said ≡ None)) answer
+Says view answer said = Reads view answer said
 
 -- ---- what lines say, as it is kept
 

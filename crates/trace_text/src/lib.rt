@@ -2,6 +2,7 @@
 #![tactic(auto)]
 
 mod each;
+mod few;
 mod field_cursor;
 mod field_values;
 mod form;

@@ -1,5 +1,5 @@
 //! The lines that a recorder records, by their fields after the first.
-ghost use Rattle.std.specs.Prelude.{◌≡◌, ◌+◌, IfOk, length};
+ghost use Rattle.std.specs.Prelude.{◌≡◌, ◌≤◌, ◌+◌, IfOk, length};
 ghost use Rattle.std.specs.Option.{option_map};
 ghost use Rattle.trace_model.specs.RecorderLines as spec;
 ghost use Rattle.trace_text.specs.Lines.{Says};
@@ -140,7 +140,8 @@ pub fn scissor_form(fields: &mut FieldCursor<'_>) -> Option<ScissorLine>
 
 /// How many attachments a version has.
 pub fn attachment_count(version: Version) -> usize
-    ensures { result ≡ lines.attachment_count version }
+    ensures value { result ≡ lines.attachment_count version }
+    ensures few { result ≤ 8 }
 {
     match version {
         Version::First => FIRST_ATTACHMENTS,
