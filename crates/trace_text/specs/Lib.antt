@@ -1,8 +1,10 @@
 pub mod Answers
+pub mod Kept
 pub mod LibraryLines
 pub mod Lines
 pub mod Located
 pub mod Numbers
 pub mod Parts
 pub mod RecorderLines
+pub mod Taking
 pub mod Values
