@@ -1,8 +1,10 @@
+pub mod BlockParts
 pub mod CappedNumbers
 pub mod Counts
 pub mod EachField
 pub mod Filled
 pub mod FormatNames
+pub mod KnownNumbers
 pub mod Rows
 pub mod SplitParts
 pub mod Values

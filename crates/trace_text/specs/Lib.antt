@@ -3,6 +3,7 @@ pub mod Kept
 pub mod LibraryLines
 pub mod Lines
 pub mod Located
+pub mod ModuleParts
 pub mod Numbers
 pub mod Parts
 pub mod RecorderLines

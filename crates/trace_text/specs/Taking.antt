@@ -1,8 +1,11 @@
 -- What it is to take a line.
-use Rattle.std.specs.Prelude.{◌≡◌, ℕ, List, Option, None, Some, Result, Ok, Err}
+use Rattle.std.specs.Prelude.{◌≡◌, ℕ, nat_le, if◌then◌else◌, List, Option, None, Some, Result, Ok, Err}
+use Rattle.std.specs.List.{list_any}
 use Rattle.basics.specs.Answer.{UnlessMemory}
 use Rattle.trace_model.specs.declared.line_fault.Cause.{Cause}
-use Rattle.trace_model.specs.declared.line_fault.Cause.TheVariants.{BadLine}
+use Rattle.trace_model.specs.declared.line_fault.Cause.TheVariants.{BadLine, BadModule, Memory}
+use Rattle.check_model.specs.declared.fault.CheckFault.{CheckFault}
+use Rattle.check_model.specs.declared.fault.CheckFault.TheVariants as check
 use Rattle.trace_model.specs.Lines.{Line}
 use Rattle.trace_model.specs.LinesBefore.{Before, after_line}
 use Rattle.trace_model.specs.Reading.{cause_of}
@@ -41,3 +44,14 @@ given_by before (Some line) = settled before line
 -- a call that answers this, and leaves this behind, gives what is to be given, unless memory ran out
 abbrev pub Takes : Result (Unit {0}) Cause → Before → Result Before Cause → Type 0
 Takes answer after given = UnlessMemory is_memory (λ _. given ≡ Ok after) (λ cause. given ≡ Err cause) answer
+
+-- ---- modules and numbers
+
+-- the cause that the fault of a line's words is
+abbrev pub cause_of_module : CheckFault → Cause
+cause_of_module check.Memory = Memory
+cause_of_module fault = BadModule fault
+
+-- the numbers, if all are among so many
+abbrev pub known_among : ℕ → List ℕ → Option (List ℕ)
+known_among count numbers = if list_any (λ number. nat_le count number) numbers then None else Some numbers

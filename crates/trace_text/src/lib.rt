@@ -1,12 +1,14 @@
 //! The text of traces, and the text that a play prints.
 #![tactic(auto)]
 
+mod adding;
 mod each;
 mod few;
 mod field_cursor;
 mod field_values;
 mod form;
 mod made;
+mod module_parts;
 mod modules;
 mod number;
 mod kept_steps;
