@@ -5,6 +5,7 @@ pub mod EachField
 pub mod Filled
 pub mod FormatNames
 pub mod KnownNumbers
+pub mod Locations
 pub mod Rows
 pub mod SplitParts
 pub mod Values

@@ -1,12 +1,13 @@
 -- What it is to take a line.
-use Rattle.std.specs.Prelude.{◌≡◌, ℕ, nat_le, if◌then◌else◌, List, Option, None, Some, Result, Ok, Err}
+use Rattle.std.specs.Prelude.{◌≡◌, ℕ, nat_le, if◌then◌else◌, Bool, List, map, Option, None, Some, Result, Ok, Err}
 use Rattle.std.specs.List.{list_any}
 use Rattle.basics.specs.Answer.{UnlessMemory}
 use Rattle.trace_model.specs.declared.line_fault.Cause.{Cause}
 use Rattle.trace_model.specs.declared.line_fault.Cause.TheVariants.{BadLine, BadModule, Memory}
 use Rattle.check_model.specs.declared.fault.CheckFault.{CheckFault}
 use Rattle.check_model.specs.declared.fault.CheckFault.TheVariants as check
-use Rattle.trace_model.specs.Lines.{Line}
+use Rattle.body_model.specs.Switches.{repeat}
+use Rattle.trace_model.specs.Lines.{LocatedAttribute, Line}
 use Rattle.trace_model.specs.LinesBefore.{Before, after_line}
 use Rattle.trace_model.specs.Reading.{cause_of}
 use Rattle.trace_model.proofs.ReadingLaws.{verdict_of}
@@ -55,3 +56,7 @@ cause_of_module fault = BadModule fault
 -- the numbers, if all are among so many
 abbrev pub known_among : ℕ → List ℕ → Option (List ℕ)
 known_among count numbers = if list_any (λ number. nat_le count number) numbers then None else Some numbers
+
+-- two attributes have one location
+abbrev pub repeat_locations : List LocatedAttribute → Bool
+repeat_locations attributes = repeat (map (λ a. a.location) attributes)

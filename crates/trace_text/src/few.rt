@@ -1,6 +1,5 @@
 //! Objects of one kind, in the order in which lines make them.
-ghost use Rattle.std.specs.Prelude.{◌≡◌, ◌<◌, ◌≤◌, [], ◌∷◌, ◌++◌, nat_le, length, slice_get, OnOk, OnSome};
-ghost use Rattle.std.specs.Option.{option_copied};
+ghost use Rattle.std.specs.Prelude.{◌≡◌, ◌<◌, ◌≤◌, [], ◌∷◌, ◌++◌, nat_le, length, slice_get, slice_index_or, Some, OnOk};
 
 use sqlite_items::Items;
 use std::alloc::{AllocError, Global};
@@ -45,10 +44,12 @@ impl<T: Drop> Few<T> {
         limit <= self.items.len()
     }
 
-    pub fn get(&self, number: u16) -> Option<&T>
-        ensures { option_copied result ≡ slice_get self.now number }
+    pub fn at(&self, number: u16) -> &T
+        requires { number < length self.now }
+        ensures value { slice_get self.now number ≡ Some result.now }
+        ensures index { (d : T) → slice_index_or self.now number d ≡ result.now }
     {
-        self.items.get(usize::from(number))
+        &self.items.as_slice()[usize::from(number)]
     }
 
     pub fn push(&mut self, item: T) -> Result<(), AllocError>

@@ -2,6 +2,7 @@
 #![tactic(auto)]
 
 mod adding;
+mod adding_libraries;
 mod each;
 mod few;
 mod field_cursor;
