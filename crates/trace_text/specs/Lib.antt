@@ -7,5 +7,6 @@ pub mod ModuleParts
 pub mod Numbers
 pub mod Parts
 pub mod RecorderLines
+pub mod Steps
 pub mod Taking
 pub mod Values

@@ -3,6 +3,7 @@
 
 mod adding;
 mod adding_libraries;
+mod adding_steps;
 mod each;
 mod few;
 mod field_cursor;
