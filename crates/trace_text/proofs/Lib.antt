@@ -4,6 +4,7 @@ pub mod Counts
 pub mod EachField
 pub mod Filled
 pub mod FormatNames
+pub mod GivenLines
 pub mod KnownNumbers
 pub mod Locations
 pub mod Rows

@@ -1,6 +1,7 @@
 pub mod Answers
 pub mod Kept
 pub mod LibraryLines
+pub mod LineKinds
 pub mod Lines
 pub mod Located
 pub mod ModuleParts

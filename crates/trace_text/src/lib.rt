@@ -9,6 +9,7 @@ mod few;
 mod field_cursor;
 mod field_values;
 mod form;
+mod line_kind;
 mod made;
 mod module_parts;
 mod modules;
@@ -22,6 +23,7 @@ mod numbers;
 mod print;
 mod recorder_lines;
 mod setup_lines;
+mod taking;
 
 
 pub use form::read_trace;
