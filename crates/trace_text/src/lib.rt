@@ -21,12 +21,14 @@ mod parts;
 mod places;
 mod numbers;
 mod print;
+mod reading;
 mod recorder_lines;
 mod setup_lines;
 mod taking;
 
 
 pub use form::read_trace;
+pub use reading::{ReadFault, read_whole};
 pub use print::print_target;
 pub use trace_model::{Cause, Serve, Trace, TraceFault};
 

@@ -21,7 +21,6 @@ use trace_model::whole::Version;
 
 impl Made {
     /// Takes a line of a version.
-    #[tactic(auto, using(crate::proofs::GivenLines::given_line), unfolding(trace_model::specs::LineForms::line_of))]
     pub fn take_line(&mut self, alloc: Global, version: Version, line: &[u8]) -> Result<(), Cause>
         ensures { Takes result (before_of self.new)
             (line_gives verdict_of version (before_of self.old) line.now) }
