@@ -7,6 +7,7 @@ pub mod FormatNames
 pub mod GivenLines
 pub mod KnownNumbers
 pub mod Locations
+pub mod OneAnswer
 pub mod Rows
 pub mod SplitParts
 pub mod Values
