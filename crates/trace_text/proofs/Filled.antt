@@ -6,7 +6,6 @@ use Rattle.std.proofs.lemmas.Option.{slice_get-map}
 use Rattle.state_model.specs.Lawful.{present_at}
 use Rattle.trace_model.specs.LibraryLines.{filled_up}
 
-
 abbrev gone : (X : Type 0) → Option X
 gone X = None
 

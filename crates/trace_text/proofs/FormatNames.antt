@@ -8,7 +8,7 @@ use Rattle.trace_text.specs.Values.{format_named}
 
 by_tests : (a b c d e f g h i : Bool)
     → option_map (λ (n : ℕ). suc n)
-      (cond a (Some 0) (cond b (Some 1) (cond c (Some 2) (cond d (Some 3) (cond e (Some 4) (cond f (Some 5) (cond g (Some 6) (cond h (Some 7) (cond i (Some 8) None)))))))))
+    (cond a (Some 0) (cond b (Some 1) (cond c (Some 2) (cond d (Some 3) (cond e (Some 4) (cond f (Some 5) (cond g (Some 6) (cond h (Some 7) (cond i (Some 8) None)))))))))
     ≡ cond a (Some 1) (cond b (Some 2) (cond c (Some 3) (cond d (Some 4) (cond e (Some 5) (cond f (Some 6) (cond g (Some 7) (cond h (Some 8) (cond i (Some 9) None))))))))
 by_tests true b c d e f g h i = refl
 by_tests false true c d e f g h i = refl

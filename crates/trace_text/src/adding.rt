@@ -1,5 +1,6 @@
 //! What the lines add that make objects other than libraries.
 #![tactic(auto, unfolding(trace_model::specs::Reading::cause_of, trace_model::specs::LinesBefore::after_line, trace_model::specs::ObjectCauses::is_too_many, trace_model::specs::ObjectCauses::is_unknown, trace_model::specs::ObjectCauses::binds_foreign, trace_model::specs::PartCauses::is_bad_part))]
+
 ghost use Rattle.std.specs.Prelude.{◌≡◌, ◌≤◌, Ok, Some, IfOk};
 ghost use Rattle.std.specs.Option.{option_map};
 ghost use Rattle.std.specs.Result.{result_err};
@@ -16,8 +17,8 @@ use crate::number::Number;
 use crate::setup_lines::TargetLine;
 use check_model::CheckFault;
 use limits::MODULES;
-use sqlite_items::Items;
 use spv_check::{Module, check};
+use sqlite_items::Items;
 use state_model::Layout;
 use std::alloc::{AllocError, Global};
 use trace_model::limit::{BUFFERS, LAYOUTS, PIPES, TARGET_WORDS, TARGETS};

@@ -1,5 +1,6 @@
 //! What the lines add that make libraries.
 #![tactic(auto, unfolding(trace_model::specs::Reading::cause_of, trace_model::specs::LinesBefore::after_line, trace_model::specs::ObjectCauses::is_too_many, trace_model::specs::ObjectCauses::is_unknown, trace_model::specs::ObjectCauses::binds_foreign, trace_model::specs::PartCauses::is_bad_part))]
+
 ghost use Rattle.std.specs.Prelude.{◌≡◌, ◌==◌, ◌≤◌, length};
 ghost use Rattle.std.specs.List.{find, list_any};
 ghost use Rattle.std.specs.Option.{option_map};

@@ -1,5 +1,6 @@
 //! What the lines add that a recorder records.
 #![tactic(auto, unfolding(trace_model::specs::Reading::cause_of, trace_model::specs::LinesBefore::after_line, trace_model::specs::ObjectCauses::is_too_many, trace_model::specs::ObjectCauses::is_unknown, trace_model::specs::ObjectCauses::binds_foreign, trace_model::specs::PartCauses::is_bad_part))]
+
 ghost use Rattle.std.specs.Prelude.{◌≡◌, ◌≤◌, ◌+◌, ◌||◌, IfOk, length, not};
 ghost use Rattle.std.specs.List.{list_any};
 ghost use Rattle.trace_model.specs.ObjectCauses as causes;
@@ -42,8 +43,7 @@ impl Made {
             return Err(Cause::Unknown);
         };
         let slot = line.slot;
-        self.steps
-            .push(line.recorder, Step::Vbuf { slot, buffer })?;
+        self.steps.push(line.recorder, Step::Vbuf { slot, buffer })?;
         Ok(())
     }
 
@@ -96,10 +96,7 @@ impl Made {
         ensures { Takes result (before_of self.new)
             (settled (before_of self.old) (lines.bind_line version line.now)) }
     {
-        let (colour, depth) = line
-            .targets
-            .as_slice()
-            .split_at(attachment_count(version));
+        let (colour, depth) = line.targets.as_slice().split_at(attachment_count(version));
         let Some(colour) = colours_found(alloc, &self.targets, colour)? else {
             return Err(Cause::Unknown);
         };

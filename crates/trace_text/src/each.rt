@@ -3,7 +3,9 @@ ghost use Rattle.std.specs.Prelude.{◌≡◌, ◌≤◌, ℕ, IfOk, IfSome, Lis
 ghost use Rattle.trace_model.specs.Fields as spec;
 
 use crate::field_cursor::FieldCursor;
-use crate::field_values::{attachment_value, binding_value, depth_value, entry_value, mask_value, multisample_value};
+use crate::field_values::{
+    attachment_value, binding_value, depth_value, entry_value, mask_value, multisample_value,
+};
 use crate::number::Number;
 use crate::numbers::hex_word;
 use limits::DESCRIPTOR_BINDINGS;

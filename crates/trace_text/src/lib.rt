@@ -9,27 +9,26 @@ mod few;
 mod field_cursor;
 mod field_values;
 mod form;
+mod kept_steps;
+mod kept_targets;
+mod library_lines;
 mod line_kind;
 mod made;
 mod module_parts;
 mod modules;
 mod number;
-mod kept_steps;
-mod kept_targets;
-mod library_lines;
+mod numbers;
 mod parts;
 mod places;
-mod numbers;
 mod print;
 mod reading;
 mod recorder_lines;
 mod setup_lines;
 mod taking;
 
-
 pub use form::read_trace;
-pub use reading::{ReadFault, read_whole};
 pub use print::print_target;
+pub use reading::{ReadFault, read_whole};
 pub use trace_model::{Cause, Serve, Trace, TraceFault};
 
 #[cfg(test)]

@@ -189,8 +189,9 @@ pub fn prerast_form<'a>(
     ensures said { Says lines.prerast_line_of result (spec.prerast_form version fields.old) }
     ensures few { IfOk result (λ line. length line.entries ≤ 16) }
 {
-    let (retain, module, layout, views, discard, cull, front) =
-        fields.next_seven().ok_or(Cause::BadLine)?;
+    let (retain, module, layout, views, discard, cull, front) = fields
+        .next_seven()
+        .ok_or(Cause::BadLine)?;
     let retain = flag_value(retain).ok_or(Cause::BadLine)?;
     let module = Number::read(module).ok_or(Cause::BadLine)?;
     let layout = Number::read(layout).ok_or(Cause::BadLine)?;
@@ -227,8 +228,9 @@ pub fn fragment_form<'a>(
     ensures said { Says lines.fragment_line_of result (spec.fragment_form version fields.old) }
     ensures few { IfOk result (λ line. length line.entries ≤ 16) }
 {
-    let (retain, module, layout, views, depth, multisample) =
-        fields.next_six().ok_or(Cause::BadLine)?;
+    let (retain, module, layout, views, depth, multisample) = fields
+        .next_six()
+        .ok_or(Cause::BadLine)?;
     let retain = flag_value(retain).ok_or(Cause::BadLine)?;
     let module = Number::read(module).ok_or(Cause::BadLine)?;
     let layout = Number::read(layout).ok_or(Cause::BadLine)?;
@@ -260,8 +262,9 @@ pub fn output_form(
     let view_mask = view_mask_value(views).ok_or(Cause::BadLine)?;
     let multisample = multisample_value(multisample).ok_or(Cause::BadLine)?;
     let logic = logic_value(logic).ok_or(Cause::BadLine)?;
-    let list = exactly::<Option<Attachment>>(alloc, attachment_count(version), fields)?
-        .ok_or(Cause::BadLine)?;
+    let list = exactly::<Option<Attachment>>(alloc, attachment_count(version), fields)?.ok_or(
+        Cause::BadLine,
+    )?;
     Ok(OutputPart {
         retain,
         view_mask,

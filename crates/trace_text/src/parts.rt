@@ -5,10 +5,15 @@ use crate::field_cursor::FieldCursor;
 
 /// Fields of a line.
 pub type Two<'a> = (&'a [u8], &'a [u8]);
+
 pub type Three<'a> = (&'a [u8], &'a [u8], &'a [u8]);
+
 pub type Four<'a> = (&'a [u8], &'a [u8], &'a [u8], &'a [u8]);
+
 pub type Five<'a> = (&'a [u8], &'a [u8], &'a [u8], &'a [u8], &'a [u8]);
+
 pub type Six<'a> = (&'a [u8], &'a [u8], &'a [u8], &'a [u8], &'a [u8], &'a [u8]);
+
 pub type Seven<'a> = (
     &'a [u8],
     &'a [u8],

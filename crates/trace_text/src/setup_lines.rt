@@ -54,7 +54,10 @@ pub fn layout_form(alloc: Global, fields: &mut FieldCursor<'_>) -> Result<Layout
 
 /// The numbers of a pipe's libraries.
 #[tactic(auto, unfolding(trace_model::specs::SetupLines::pipe_form))]
-pub fn pipe_form<'a>(alloc: Global, fields: &mut FieldCursor<'a>) -> Result<Items<Number<'a>>, Cause>
+pub fn pipe_form<'a>(
+    alloc: Global,
+    fields: &mut FieldCursor<'a>,
+) -> Result<Items<Number<'a>>, Cause>
     ensures { Says pipe_line result (spec.pipe_form fields.old) }
 {
     let numbers = some_of::<Number<'a>>(alloc, PIPE_LIBRARIES, fields)?;

@@ -18,11 +18,11 @@ overflow_mul-result-2 c =
 pub overflow_mul-result-3 : goal.overflow_mul-result-3
 overflow_mul-result-3 c =
     let fits = sizes c.from.result c.args.line.now.height c.args.line.now.width c.from-samples.result c.from-2.result
-      (omega arith) (omega arith) (omega arith) (omega arith) (omega arith) in
+    (omega arith) (omega arith) (omega arith) (omega arith) (omega arith) in
     omega (arith, fits.1)
 
 pub returns-clause-few : goal.returns-clause-few
 returns-clause-few c =
     let fits = sizes c.from.result c.args.line.now.height c.args.line.now.width c.from-samples.result c.from-2.result
-      (omega arith) (omega arith) (omega arith) (omega arith) (omega arith) in
+    (omega arith) (omega arith) (omega arith) (omega arith) (omega arith) in
     fits.1

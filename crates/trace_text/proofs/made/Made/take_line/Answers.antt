@@ -9,6 +9,6 @@ pub returns : goal.returns
 unfolding line_of
 returns c =
     let gives =
-      ap (λ fields. given_by (before_of c.args.self.now) (line_of_fields c.args.version fields)) c.new-fields.ensures
-      ∙ sym (given_line c.args.version (before_of c.args.self.now) c.args.line.now) in
+    ap (λ fields. given_by (before_of c.args.self.now) (line_of_fields c.args.version fields)) c.new-fields.ensures
+    ∙ sym (given_line c.args.version (before_of c.args.self.now) c.args.line.now) in
     subst (Takes c.take_fields.result (before_of c.take_fields.new.self)) gives c.take_fields.ensures
