@@ -33,3 +33,5 @@ pub use trace_model::{Cause, Serve, Trace, TraceFault};
 
 #[cfg(test)]
 mod tests;
+#[cfg(test)]
+mod whole_tests;

@@ -17,15 +17,18 @@ use spv_check::Module;
 use sqlite_items::Items;
 use state_model::Buffers;
 use std::alloc::{AllocError, Global};
+use thiserror::Error;
 use trace_model::line_fault::{Cause, TraceFault};
 use trace_model::whole::{Trace, Version};
 
 /// Why bytes give no trace.
-#[derive(Clone, Copy, Debug, Drop, PartialEq, Eq)]
+#[derive(Clone, Copy, Debug, Drop, PartialEq, Eq, Error)]
 pub enum ReadFault {
     /// They are none: the first faulty line and the first cause on it.
+    #[error("line {}: {}", .0.line, .0.cause)]
     Fault(TraceFault),
     /// Memory ran out.
+    #[error("memory")]
     Memory,
 }
 
