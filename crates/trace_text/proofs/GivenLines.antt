@@ -1,5 +1,5 @@
 -- What a line gives, by what it says.
-use Rattle.std.proofs.Common.{◌≡◌, ℕ, List, Option, None, Some, Result, Ok, Err, refl}
+use Rattle.std.proofs.Common.{◌≡◌, ℕ, List, Option, None, Some, Ok, Err, refl}
 use Rattle.trace_model.specs.declared.line_fault.Cause.{Cause}
 use Rattle.trace_model.specs.declared.line_fault.Cause.TheVariants.{BadLine}
 use Rattle.trace_model.specs.declared.whole.Version.{Version}

@@ -1,10 +1,10 @@
 -- The answer of a reader is the one that the bytes have.
-use Rattle.std.proofs.Common.{◌≡◌, ℕ, Bool, true, false, List, Result, Ok, Err, MatchBool, refl}
+use Rattle.std.proofs.Common.{◌≡◌, ℕ, Bool, true, false, List, Result, Ok, Err, MatchBool}
 use Rattle.std.specs.Prelude.{if◌then◌else◌}
 use Rattle.basics.specs.Answer.{FaultUnlessMemory}
 use Rattle.trace_model.specs.declared.line_fault.TraceFault.{TraceFault}
 use Rattle.trace_model.specs.declared.whole.Trace.{Trace}
-use Rattle.trace_model.specs.Reading.{IsReading, IsTraceOf, HasTraceFault, reading}
+use Rattle.trace_model.specs.Reading.{IsTraceOf, HasTraceFault, reading}
 use Rattle.trace_model.proofs.ReadingLaws.{verdict_of, is-reading, one_reading, reading-is}
 use Rattle.trace_text.specs.declared.reading.ReadFault.TheVariants.{Fault, Memory}
 use Rattle.trace_text.specs.Readings.{HasFault, is_memory, is_want, read_fault}

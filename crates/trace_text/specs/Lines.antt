@@ -1,5 +1,5 @@
 -- What the readers of lines answer.
-use Rattle.std.specs.Prelude.{◌≡◌, ℕ, ◌<◌, ◌≤◌, Bool, true, false, List, [], Option, None, Some, Result}
+use Rattle.std.specs.Prelude.{◌≡◌, ◌<◌, ◌≤◌, Bool, true, false, [], Option, None, Some, Result}
 use Rattle.basics.specs.Answer.{UnlessMemory}
 use Rattle.trace_model.specs.declared.line_fault.Cause.{Cause}
 use Rattle.trace_model.specs.declared.line_fault.Cause.TheVariants.{Memory, BadLine}

@@ -1,5 +1,5 @@
 -- Decimal numbers of any size as they are kept.
-use Rattle.std.specs.Prelude.{ℕ, ◌+◌, ◌*◌, Bool, false, not, ◌||◌, ◌==◌, min, List, [], ◌∷◌, length, Option, None, Some, unwrap_or}
+use Rattle.std.specs.Prelude.{ℕ, ◌+◌, ◌*◌, Bool, false, not, ◌||◌, ◌==◌, min, List, [], ◌∷◌, length, Option, Some, unwrap_or}
 use Rattle.trace_model.specs.Text.{◌>>=◌, decimal_digit}
 use Rattle.trace_model.specs.Fields.{number_value}
 

@@ -1,4 +1,4 @@
-use Rattle.std.proofs.Common.{◌≡◌, List, ℕ, Option, Some, Ok, Err, ap, subst, sym}
+use Rattle.std.proofs.Common.{◌≡◌, List, ℕ, Some, Ok, Err, ap, subst, sym}
 use Rattle.std.specs.Option.{option_map}
 use Rattle.std.specs.Result.{result_err}
 use Rattle.basics.specs.Answer.{FaultUnlessMemory}

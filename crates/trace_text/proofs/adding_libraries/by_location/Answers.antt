@@ -1,4 +1,4 @@
-use Rattle.std.proofs.Common.{◌≡◌, ℕ, None, arith}
+use Rattle.std.proofs.Common.{None, arith}
 use Rattle.std.proofs.lemmas.List.FromFn.{fill_by_all}
 use Rattle.trace_text.specs.LibraryLines.{attribute_at}
 use Rattle.trace_text.proofs.adding_libraries.by_location.Goals as goal

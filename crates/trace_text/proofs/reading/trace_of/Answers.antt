@@ -1,4 +1,4 @@
-use Rattle.std.proofs.Common.{◌≡◌, ℕ, ◌==◌, ◌≤◌, ◌+◌, List, length, subst, sym, arith}
+use Rattle.std.proofs.Common.{ℕ, ◌==◌, ◌≤◌, ◌+◌, List, length, subst, sym, arith}
 use Rattle.std.proofs.lemmas.List.Splits.{length-slice_split}
 use Rattle.std.proofs.lemmas.List.Sums.{count_by-le-length}
 use Rattle.trace_text.specs.Answers.{parts_of}

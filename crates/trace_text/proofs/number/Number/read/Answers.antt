@@ -1,7 +1,6 @@
-use Rattle.std.proofs.Common.{◌≡◌, ◌∙◌, true, Some, None, sym, ap}
-use Rattle.trace_model.specs.Fields.{number_value}
+use Rattle.std.proofs.Common.{◌≡◌, true, Some, None, sym}
 use Rattle.trace_text.specs.Numbers.{capped_onto, is_numeral}
-use Rattle.trace_text.proofs.CappedNumbers.{no_number, no_digits, the_number}
+use Rattle.trace_text.proofs.CappedNumbers.{no_digits, the_number}
 use Rattle.trace_text.proofs.number.Number.read.Goals as goal
 
 pub returns-in_err-low : goal.returns-in_err-low
