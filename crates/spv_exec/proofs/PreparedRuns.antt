@@ -12,10 +12,11 @@ use Rattle.check_model.specs.Validity.{IsValidList}
 use Rattle.stage_model.specs.declared.outcome.Kind.{Kind}
 use Rattle.stage_model.specs.declared.outcome.Kind.TheVariants.{Done, Killed, Lost}
 use Rattle.stage_model.specs.declared.outcome.Ended.{Ended}
+use Rattle.spirv_model.specs.declared.decoration.TheConstants.{LOCATION}
 use Rattle.stage_model.specs.Program.{Program, program_of, held_layout}
 use Rattle.stage_model.specs.Start.{Memory, first_memory}
 use Rattle.stage_model.specs.Machine.{State, Machine, run}
-use Rattle.stage_model.specs.Stage.{Given, Outcome, size_in, start_at, first_label, components_left, position_left, slots_left, left_by, outcome_of, enough_steps, stage, ended_of}
+use Rattle.stage_model.specs.Stage.{Given, Outcome, size_in, start_at, first_label, components_left, position_left, slots_left, left_by, output_with, outcome_of, enough_steps, stage, ended_of}
 use Rattle.typed_model.proofs.NeverStuck.{never_stuck}
 use Rattle.typed_model.proofs.RunningStart.{first_label_is, running_start, starts_with_label}
 use Rattle.frame_model.specs.Shown.{ShowsMemory, IsFrame}
@@ -48,7 +49,7 @@ no_position program = no_components program _
 
 no_slots : (program : Program) → slots_left program (λ _ _. 0) ≡ replicate LOCATIONS (replicate COMPONENTS 0)
 unfolding slots_left
-no_slots program = ap (λ (f : ℕ → List ℕ). map f (range_with_len 0 LOCATIONS)) (fun_ext (λ location. no_components program _))
+no_slots program = ap (λ (f : ℕ → List ℕ). map f (range_with_len 0 LOCATIONS)) (fun_ext (λ location. no_components program (output_with program LOCATION location)))
 
 abbrev nothing : Kind → ℕ → Ended
 nothing kind work = record { kind = kind; position = replicate COMPONENTS 0; slots = replicate LOCATIONS (replicate COMPONENTS 0); work = work }
