@@ -1,7 +1,8 @@
 -- The frame where a module's function begins.
-use Rattle.std.specs.Prelude.{◌≡◌, ℕ, ◌<◌, ◌==◌, Bool, ◌||◌, List, [], ◌∷◌, take, Some}
+use Rattle.std.specs.Prelude.{◌≡◌, ℕ, ◌<◌, ◌==◌, Bool, ◌||◌, if◌then◌else◌, List, [], ◌∷◌, take, Option, None, Some}
 use Rattle.spirv_model.specs.declared.module.Inst.{Inst}
 use Rattle.spirv_model.specs.declared.op.TheConstants as op
+use Rattle.state_model.specs.declared.parts.Entry.{Entry}
 use Rattle.state_model.specs.declared.parts.SpecValues.{SpecValues}
 use Rattle.valid_model.specs.Definitions.{definition, inst_at}
 use Rattle.stage_model.specs.Value.{Value}
@@ -44,3 +45,8 @@ abbrev pub DefinesWord : List Inst → SpecValues → ℕ → ℕ → Type 0
 DefinesWord insts entries place word =
     (value : Value) → constant_of (program_of insts) entries (defined_by (program_of insts) entries (take place insts)) (inst_at insts place).op (inst_at insts place).words ≡ Some value
     → in_frame (program_of insts) value ≡ word ∷ []
+
+-- the word of an entry, if it has this id
+abbrev pub entry_value : Option Entry → ℕ → Option ℕ
+entry_value None id = None
+entry_value (Some entry) id = if entry.id == id then Some entry.value else None

@@ -11,8 +11,10 @@ use crate::accesses::{clear_words, put, word_of};
 use crate::composites::gather_words;
 use crate::module_frame::ModuleFrame;
 use crate::operations::scalar_word;
+use crate::origins::spec_id;
+use limits::ENTRIES;
 use spirv_model::{Inst, op};
-use state_model::SpecValues;
+use state_model::{Entry, SpecValues};
 use std::alloc::{AllocError, Global};
 
 /// The frame where the function begins, at the first label: the values of the module's level, for these specialization entries.
@@ -147,20 +149,29 @@ fn operation_word(of: &ModuleFrame<'_>, inst: &Inst, frame: &[u32]) -> u32 {
 fn specialized(of: &ModuleFrame<'_>, values: &SpecValues, id: u32) -> Option<u32>
     ensures { result ≡ start.specialized (program_of of.now.insts) values.now id }
 {
-    let number = of.module().ids().spec_id(id)?;
-    entry_word(values, number)
+    match spec_id(of, id) {
+        Some(number) => entry_word(&values.entries, number),
+        None => None,
+    }
 }
 
 /// The word of the first entry with this id.
-fn entry_word(values: &SpecValues, id: u32) -> Option<u32>
-    ensures { result ≡ start.entry_word values.now.entries id }
+fn entry_word(entries: &[Option<Entry>; ENTRIES], id: u32) -> Option<u32>
+    ensures { result ≡ start.entry_word entries.now id }
 {
-    for entry in &values.entries {
-        if let Some(entry) = entry {
-            if entry.id == id {
-                return Some(entry.value);
-            }
+    for entry in entries {
+        if let Some(word) = entry_value(entry, id) {
+            return Some(word);
         }
     }
     None
+}
+
+fn entry_value(entry: &Option<Entry>, id: u32) -> Option<u32>
+    ensures { result ≡ first.entry_value entry.now id }
+{
+    match entry {
+        Some(entry) if entry.id == id => Some(entry.value),
+        _ => None,
+    }
 }
