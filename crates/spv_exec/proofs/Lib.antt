@@ -27,3 +27,4 @@ pub mod SplitWords
 pub mod ModuleVariables
 pub mod DefinedValues
 pub mod DefineSteps
+pub mod DefinedWords
