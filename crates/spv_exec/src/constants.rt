@@ -1,7 +1,9 @@
-ghost use Rattle.std.specs.Prelude.{◌≡◌, ◌+◌, ◌<◌, false, Some, IfOk, replicate, length};
+ghost use Rattle.std.specs.Prelude.{◌≡◌, ◌+◌, ◌<◌, false, true, Some, IfOk, replicate, length};
 ghost use Rattle.stage_model.specs.Program.{program_of};
 ghost use Rattle.stage_model.specs.Stage.{first_label};
 ghost use Rattle.stage_model.specs.Start as start;
+ghost use Rattle.std.specs.Option.{unwrap_or};
+ghost use Rattle.stage_model.specs.Value.{word_of_truth};
 ghost use Rattle.typed_model.specs.Modules.{IsFront};
 ghost use Rattle.valid_model.specs.Definitions.{inst_at};
 ghost use Rattle.spv_exec.specs.FirstFrames as first;
@@ -107,23 +109,44 @@ fn defines_composite(op: u16) -> bool
 /// The word of a value that is one.
 fn defined_word(of: &ModuleFrame<'_>, place: usize, values: &SpecValues, frame: &[u32]) -> u32
     requires within { place < length of.now.insts }
+    requires value { first.defines_value (inst_at of.now.insts place).op ≡ true }
     requires zeros { first.defines_zeros (inst_at of.now.insts place).op ≡ false }
     requires composite { first.defines_composite (inst_at of.now.insts place).op ≡ false }
     requires before { IsDefined of.now.insts values.now place frame.now }
     ensures { DefinesWord of.now.insts values.now place result }
 {
+    let _module = of.module();
     let inst = of.inst(place);
-    let id = inst.word(1);
     match inst.op {
         op::CONSTANT_TRUE => 1,
+        op::CONSTANT_FALSE => 0,
         op::CONSTANT => inst.word(2),
-        op::SPEC_CONSTANT_TRUE => u32::from(specialized(of, values, id).unwrap_or(1) != 0),
-        op::SPEC_CONSTANT_FALSE => u32::from(specialized(of, values, id).unwrap_or(0) != 0),
-        op::SPEC_CONSTANT => specialized(of, values, id).unwrap_or(inst.word(2)),
+        op::SPEC_CONSTANT_TRUE => truth_word(of, values, inst.word(1), 1),
+        op::SPEC_CONSTANT_FALSE => truth_word(of, values, inst.word(1), 0),
+        op::SPEC_CONSTANT => number_word(of, values, inst.word(1), inst.word(2)),
         op::SPEC_CONSTANT_OP => operation_word(of, inst, frame),
         op::VARIABLE => of.memory_place(place) as u32,
         _ => 0,
     }
+}
+
+/// The word of a truth value that specialization may set.
+fn truth_word(of: &ModuleFrame<'_>, values: &SpecValues, id: u32, default: u32) -> u32
+    ensures { result ≡ word_of_truth (start.is_nonzero
+        (unwrap_or (start.specialized (program_of of.now.insts) values.now id) default)) }
+{
+    if specialized(of, values, id).unwrap_or(default) == 0 {
+        0
+    } else {
+        1
+    }
+}
+
+/// The word of a number that specialization may set.
+fn number_word(of: &ModuleFrame<'_>, values: &SpecValues, id: u32, default: u32) -> u32
+    ensures { result ≡ unwrap_or (start.specialized (program_of of.now.insts) values.now id) default }
+{
+    specialized(of, values, id).unwrap_or(default)
 }
 
 /// The word of an OpSpecConstantOp.
