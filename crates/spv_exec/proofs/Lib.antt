@@ -38,7 +38,4 @@ pub mod StartsTo
 pub mod StepArms
 pub mod StoreWords
 pub mod WalkRuns
-pub mod ModuleVariables
-pub mod DefinedValues
-pub mod DefineSteps
 pub mod DefinedWords
