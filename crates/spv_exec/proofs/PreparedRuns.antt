@@ -34,7 +34,6 @@ first_there words v found place is whole =
 
 -- ---- what is left without memory
 
-
 zero_or : (b : Bool) → ◌≡◌ {A = ℕ} (if b then 0 else 0) 0
 zero_or true = refl
 zero_or false = refl

@@ -33,4 +33,6 @@ pub use std::alloc::AllocError as Memory;
 #[cfg(test)]
 mod module_frame_tests;
 #[cfg(test)]
+mod prepared_tests;
+#[cfg(test)]
 mod tests;
