@@ -1,15 +1,10 @@
-pub mod BlockRuns
-pub mod BlockSteps
 pub mod BranchTargets
 pub mod ChainWords
 pub mod ComponentLoops
 pub mod ComponentResults
 pub mod CompositeRuns
-pub mod CompositeWords
 pub mod DefineSteps
 pub mod DefinedValues
-pub mod Definitions
-pub mod Filled
 pub mod FilledVariables
 pub mod FilledWords
 pub mod FirstOutputs

@@ -2,7 +2,6 @@
 #![tactic(auto)]
 
 mod accesses;
-mod block;
 mod block_offsets;
 mod branches;
 mod components;
@@ -18,14 +17,11 @@ mod phis;
 mod places;
 mod prepared;
 mod results;
-mod run;
 mod stand;
-mod values;
 mod variables;
 mod walk;
 
 pub use prepared::{Prepared, run_stage};
-pub use run::run_flat;
 pub use spirv_model::{Inst, Items};
 pub use stage_model::{Ended, Kind};
 pub use std::alloc::AllocError as Memory;
