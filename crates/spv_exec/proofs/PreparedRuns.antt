@@ -2,6 +2,7 @@
 use Rattle.std.proofs.Common.{◌≡◌, ℕ, ◌+◌, ◌<◌, ◌≤◌, ◌==◌, Bool, true, false, nat_lt, if◌then◌else◌, List, [], ◌∷◌, length, take, refl, ap, sym, ◌∙◌, subst, arith, Option, None, Some}
 use Rattle.std.specs.Prelude.{map, replicate}
 use Rattle.std.proofs.Math.Path.{fun_ext}
+use Rattle.std.proofs.lemmas.List.{length-replicate}
 use Rattle.std.specs.Option.{option_map, option_and_then, unwrap_or}
 use Rattle.std.specs.List.{range_with_len}
 use Rattle.limits.specs.declared.TheConstants.{COMPONENTS, LOCATIONS}
@@ -133,3 +134,6 @@ outcome_is words given first e end memory result so is =
     ∙ ap (λ (r : Ended). Some r)
     (ap (λ (k : Kind). left_so (program_of words.insts) (record { kind = k; work = e.state.steps }) e.state.memory) (sym so.kind_is)
     ∙ (ap (λ (n : ℕ). left_so (program_of words.insts) (record { kind = end.kind; work = n }) e.state.memory) so.work ∙ sym is))
+
+pub so_many : (words : List ℕ) (count : ℕ) → words ≡ replicate count 0 → length words ≡ count
+so_many words count is = ap (λ (l : List ℕ). length l) is ∙ length-replicate count 0

@@ -30,5 +30,3 @@ pub use std::alloc::AllocError as Memory;
 mod module_frame_tests;
 #[cfg(test)]
 mod prepared_tests;
-#[cfg(test)]
-mod tests;
