@@ -1,33 +1,48 @@
-use Rattle.std.proofs.Common.{arith}
-use Rattle.spv_exec.proofs.DefinedWords.{true_here, false_here, number_here, spec_true_here, spec_false_here, spec_number_here, variable_here, memory_fits}
+use Rattle.std.proofs.Common.{rules, ◌≡◌, ◌+◌, ◌<◌, false, true, List, [], ◌∷◌, Some, IfOk, replicate, length, ℕ, ◌-◌, ◌*◌, ◌≤◌, ◌/◌, ◌%◌, Bool, nat_eq, nat_lt, ◌++◌, slice_index_or, slice_set, bit_and, bit_or, Fits, w8, w32, w64, Bor, MutBor}
+use Rattle.spirv_model.specs.Operands.{word_at, words_from}
+use Rattle.stage_model.specs.Program.{program_of}
+use Rattle.stage_model.specs.Stage.{first_label}
+use Rattle.stage_model.specs.Start as start
+use Rattle.std.specs.Option.{unwrap_or}
+use Rattle.stage_model.specs.Value.{Value, word_of_truth, words_of}
+use Rattle.typed_model.specs.Modules.{IsFront}
+use Rattle.valid_model.specs.Definitions.{inst_at}
+use Rattle.spv_exec.specs.FirstFrames as first
+use Rattle.spv_exec.specs.FirstFrames.{AreShownWords, DefinesWord, IsDefined, IsFirstFrame}
 use Rattle.spv_exec.proofs.constants.defined_word.Goals as goal
 
+-- src/constants.rt:121:16
 pub overflow_cast-result : goal.overflow_cast-result
 overflow_cast-result c = ?
 
-pub returns-in-41 : goal.returns-in-41
-returns-in-41 c = true_here c.args.of.now.insts c.args.values.now c.args.place c.inst-inst.result.now c.inst-inst.ensures c.in-41.is
+-- src/constants.rt:121:9
+pub returns-then-inst-eq-VARIABLE : goal.returns-then-inst-eq-VARIABLE
+returns-then-inst-eq-VARIABLE c = ?
 
-pub returns-in-42 : goal.returns-in-42
-returns-in-42 c = false_here c.args.of.now.insts c.args.values.now c.args.place c.inst-inst.result.now c.inst-inst.ensures c.in-42.is
+-- src/constants.rt:124:9
+pub returns-then-inst-eq-CONSTANT : goal.returns-then-inst-eq-CONSTANT
+returns-then-inst-eq-CONSTANT c = ?
 
-pub returns-in-43 : goal.returns-in-43
-returns-in-43 c = number_here c.args.of.now.insts c.args.values.now c.args.place c.word.result c.inst-inst.result.now c.inst-inst.ensures c.in-43.is c.word.ensures
+-- src/constants.rt:127:9
+pub returns-then-inst-eq-CONSTANT_TRUE : goal.returns-then-inst-eq-CONSTANT_TRUE
+returns-then-inst-eq-CONSTANT_TRUE c = ?
 
-pub returns-in-48 : goal.returns-in-48
-returns-in-48 c = spec_true_here c.args.of.now.insts c.args.values.now c.args.place _ _ c.inst-inst.result.now c.inst-inst.ensures c.in-48.is c.word-in-48.ensures c.truth_word.ensures
+-- src/constants.rt:130:9
+pub returns-then-inst-eq-SPEC_CONSTANT_TRUE : goal.returns-then-inst-eq-SPEC_CONSTANT_TRUE
+returns-then-inst-eq-SPEC_CONSTANT_TRUE c = ?
 
-pub returns-in-49 : goal.returns-in-49
-returns-in-49 c = spec_false_here c.args.of.now.insts c.args.values.now c.args.place _ _ c.inst-inst.result.now c.inst-inst.ensures c.in-49.is c.word-in-49.ensures c.truth_word-in-49.ensures
+-- src/constants.rt:133:9
+pub returns-then-inst-eq-SPEC_CONSTANT_FALSE : goal.returns-then-inst-eq-SPEC_CONSTANT_FALSE
+returns-then-inst-eq-SPEC_CONSTANT_FALSE c = ?
 
-pub returns-in-50 : goal.returns-in-50
-returns-in-50 c = spec_number_here c.args.of.now.insts c.args.values.now c.args.place _ _ _ c.inst-inst.result.now c.inst-inst.ensures c.in-50.is c.word-in-50.ensures c.word-in-50-2.ensures c.number_word.ensures
+-- src/constants.rt:136:9
+pub returns-then-inst-eq-SPEC_CONSTANT : goal.returns-then-inst-eq-SPEC_CONSTANT
+returns-then-inst-eq-SPEC_CONSTANT c = ?
 
-pub returns-in-52 : goal.returns-in-52
-returns-in-52 c = ?
+-- src/constants.rt:139:9
+pub returns-then-inst-eq-SPEC_CONSTANT_OP : goal.returns-then-inst-eq-SPEC_CONSTANT_OP
+returns-then-inst-eq-SPEC_CONSTANT_OP c = ?
 
-pub returns-in-59 : goal.returns-in-59
-returns-in-59 c = variable_here c.args.of.now c.module-module.ensures.valid c.args.values.now c.args.place c.memory_place.result c.inst-inst.result.now c.requires.within c.inst-inst.ensures c.in-59.is c.memory_place.ensures
-
-pub returns-in_default : goal.returns-in_default
-returns-in_default c = ?
+-- src/constants.rt:110:1
+pub returns : goal.returns
+returns c = ?
