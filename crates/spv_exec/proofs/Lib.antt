@@ -28,3 +28,4 @@ pub mod ModuleVariables
 pub mod DefinedValues
 pub mod DefineSteps
 pub mod DefinedWords
+pub mod OperationWords

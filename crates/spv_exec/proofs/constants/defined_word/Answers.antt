@@ -1,48 +1,42 @@
-use Rattle.std.proofs.Common.{rules, ◌≡◌, ◌+◌, ◌<◌, false, true, List, [], ◌∷◌, Some, IfOk, replicate, length, ℕ, ◌-◌, ◌*◌, ◌≤◌, ◌/◌, ◌%◌, Bool, nat_eq, nat_lt, ◌++◌, slice_index_or, slice_set, bit_and, bit_or, Fits, w8, w32, w64, Bor, MutBor}
-use Rattle.spirv_model.specs.Operands.{word_at, words_from}
-use Rattle.stage_model.specs.Program.{program_of}
-use Rattle.stage_model.specs.Stage.{first_label}
-use Rattle.stage_model.specs.Start as start
-use Rattle.std.specs.Option.{unwrap_or}
-use Rattle.stage_model.specs.Value.{Value, word_of_truth, words_of}
-use Rattle.typed_model.specs.Modules.{IsFront}
-use Rattle.valid_model.specs.Definitions.{inst_at}
-use Rattle.spv_exec.specs.FirstFrames as first
-use Rattle.spv_exec.specs.FirstFrames.{AreShownWords, DefinesWord, IsDefined, IsFirstFrame}
+use Rattle.std.proofs.Common.{arith}
+use Rattle.frame_model.proofs.FrameLimits.{memory_few}
+use Rattle.spv_exec.proofs.DefinedWords.{true_here, false_left, number_here, spec_true_here, spec_false_here, spec_number_here, variable_here}
+use Rattle.spv_exec.proofs.OperationWords.{operation_here}
 use Rattle.spv_exec.proofs.constants.defined_word.Goals as goal
 
--- src/constants.rt:121:16
 pub overflow_cast-result : goal.overflow_cast-result
-overflow_cast-result c = ?
+overflow_cast-result c =
+    let few = memory_few c.args.of.now c.module-module.ensures.valid c.args.place (let w = c.requires.within in omega (arith, w)) in
+    let is = c.memory_place.ensures in
+    omega (arith, few, is)
 
--- src/constants.rt:121:9
 pub returns-then-inst-eq-VARIABLE : goal.returns-then-inst-eq-VARIABLE
-returns-then-inst-eq-VARIABLE c = ?
+returns-then-inst-eq-VARIABLE c =
+    variable_here c.args.of.now c.module-module.ensures.valid c.args.values.now c.args.place c.memory_place.result c.inst-inst.result.now c.requires.within c.inst-inst.ensures c.if-inst-eq-VARIABLE.true c.memory_place.ensures
 
--- src/constants.rt:124:9
 pub returns-then-inst-eq-CONSTANT : goal.returns-then-inst-eq-CONSTANT
-returns-then-inst-eq-CONSTANT c = ?
+returns-then-inst-eq-CONSTANT c = number_here c.args.of.now.insts c.args.values.now c.args.place _ c.inst-inst.result.now c.inst-inst.ensures c.if-inst-eq-CONSTANT.true c.word.ensures
 
--- src/constants.rt:127:9
 pub returns-then-inst-eq-CONSTANT_TRUE : goal.returns-then-inst-eq-CONSTANT_TRUE
-returns-then-inst-eq-CONSTANT_TRUE c = ?
+returns-then-inst-eq-CONSTANT_TRUE c = true_here c.args.of.now.insts c.args.values.now c.args.place c.inst-inst.result.now c.inst-inst.ensures c.if-inst-eq-CONSTANT_TRUE.true
 
--- src/constants.rt:130:9
 pub returns-then-inst-eq-SPEC_CONSTANT_TRUE : goal.returns-then-inst-eq-SPEC_CONSTANT_TRUE
-returns-then-inst-eq-SPEC_CONSTANT_TRUE c = ?
+returns-then-inst-eq-SPEC_CONSTANT_TRUE c =
+    spec_true_here c.args.of.now.insts c.args.values.now c.args.place _ _ c.inst-inst.result.now c.inst-inst.ensures c.if-inst-eq-SPEC_CONSTANT_TRUE.true c.word-then-inst-eq-SPEC_CONSTANT_TRUE.ensures c.truth_word.ensures
 
--- src/constants.rt:133:9
 pub returns-then-inst-eq-SPEC_CONSTANT_FALSE : goal.returns-then-inst-eq-SPEC_CONSTANT_FALSE
-returns-then-inst-eq-SPEC_CONSTANT_FALSE c = ?
+returns-then-inst-eq-SPEC_CONSTANT_FALSE c =
+    spec_false_here c.args.of.now.insts c.args.values.now c.args.place _ _ c.inst-inst.result.now c.inst-inst.ensures c.if-inst-eq-SPEC_CONSTANT_FALSE.true c.word-then-inst-eq-SPEC_CONSTANT_FALSE.ensures c.truth_word-then-inst-eq-SPEC_CONSTANT_FALSE.ensures
 
--- src/constants.rt:136:9
 pub returns-then-inst-eq-SPEC_CONSTANT : goal.returns-then-inst-eq-SPEC_CONSTANT
-returns-then-inst-eq-SPEC_CONSTANT c = ?
+returns-then-inst-eq-SPEC_CONSTANT c =
+    spec_number_here c.args.of.now.insts c.args.values.now c.args.place _ _ _ c.inst-inst.result.now c.inst-inst.ensures c.if-inst-eq-SPEC_CONSTANT.true c.word-then-inst-eq-SPEC_CONSTANT.ensures c.word-then-inst-eq-SPEC_CONSTANT-2.ensures c.number_word.ensures
 
--- src/constants.rt:139:9
 pub returns-then-inst-eq-SPEC_CONSTANT_OP : goal.returns-then-inst-eq-SPEC_CONSTANT_OP
-returns-then-inst-eq-SPEC_CONSTANT_OP c = ?
+returns-then-inst-eq-SPEC_CONSTANT_OP c =
+    operation_here c.args.of.now.insts c.args.values.now c.args.place c.args.frame.now c.operation_word.result c.inst-inst.result.now c.inst-inst.ensures c.if-inst-eq-SPEC_CONSTANT_OP.true c.requires.before c.operation_word.ensures
 
--- src/constants.rt:110:1
 pub returns : goal.returns
-returns c = ?
+returns c =
+    false_left c.args.of.now.insts c.args.values.now c.args.place c.inst-inst.result.now c.inst-inst.ensures c.requires.value c.requires.zeros c.requires.composite c.if-inst-eq-CONSTANT_TRUE.false c.if-inst-eq-CONSTANT.false
+    c.if-inst-eq-SPEC_CONSTANT_TRUE.false c.if-inst-eq-SPEC_CONSTANT_FALSE.false c.if-inst-eq-SPEC_CONSTANT.false c.if-inst-eq-SPEC_CONSTANT_OP.false c.if-inst-eq-VARIABLE.false
