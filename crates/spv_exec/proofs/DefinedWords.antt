@@ -147,5 +147,40 @@ variable_here words v entries place word inst within at is is_word =
     made_here words.insts entries place op.VARIABLE word (λ inst. variable_place (program_of words.insts) (word_at 1 inst)) inst at is
     (is_word ∙ sym (variable_at words.insts place (word_at 1 there) m.there) ∙ ap (λ (i : Inst). variable_place (program_of words.insts) (word_at 1 i)) (sym at)) (variable_made (program_of words.insts) entries _)
 
-pub memory_fits : (words : Words) → IsValidList words → (place word : ℕ) → place < length words.insts → word ≡ memory_place (program_of words.insts) place → word < 2 ^ 32
-memory_fits words v place word within is = (let few = memory_few words v place (omega (arith, within)) in omega (arith, few, is))
+-- ---- OpConstantFalse is what is left
+
+never_true : ◌≡◌ {A = Bool} true false → ⊥
+never_true is = cc
+
+never_false : ◌≡◌ {A = Bool} false true → ⊥
+never_false is = cc
+
+differs : (a b : ℕ) → (a ≡ b → ⊥) → a == b ≡ false
+differs a b isnt = grind (arith, nat_tests)
+
+same : (a b : ℕ) → a == b ≡ true → a ≡ b
+same a b is = grind (arith, nat_tests)
+
+left : (a b c d e f g h z k : Bool) → ((a || b || c || d || e || f || g || h) || z || k) ≡ true → z ≡ false → k ≡ false → a ≡ false → c ≡ false → d ≡ false → e ≡ false → f ≡ false → g ≡ false → h ≡ false → b ≡ true
+left a true c d e f g h z k is zn kn an cn dn en fn gn hn = refl
+left true false c d e f g h z k is zn kn an cn dn en fn gn hn = absurd (never_true an)
+left false false true d e f g h z k is zn kn an cn dn en fn gn hn = absurd (never_true cn)
+left false false false true e f g h z k is zn kn an cn dn en fn gn hn = absurd (never_true dn)
+left false false false false true f g h z k is zn kn an cn dn en fn gn hn = absurd (never_true en)
+left false false false false false true g h z k is zn kn an cn dn en fn gn hn = absurd (never_true fn)
+left false false false false false false true h z k is zn kn an cn dn en fn gn hn = absurd (never_true gn)
+left false false false false false false false true z k is zn kn an cn dn en fn gn hn = absurd (never_true hn)
+left false false false false false false false false true k is zn kn an cn dn en fn gn hn = absurd (never_true zn)
+left false false false false false false false false false true is zn kn an cn dn en fn gn hn = absurd (never_true kn)
+left false false false false false false false false false false is zn kn an cn dn en fn gn hn = absurd (never_false is)
+
+pub false_left : (insts : List Inst) (entries : SpecValues) (place : ℕ) (inst : Inst) → inst ≡ inst_at insts place → defines_value (inst_at insts place).op ≡ true → defines_zeros (inst_at insts place).op ≡ false → defines_composite (inst_at insts place).op ≡ false
+    → (inst.op ≡ op.CONSTANT_TRUE → ⊥) → (inst.op ≡ op.CONSTANT → ⊥) → (inst.op ≡ op.SPEC_CONSTANT_TRUE → ⊥) → (inst.op ≡ op.SPEC_CONSTANT_FALSE → ⊥) → (inst.op ≡ op.SPEC_CONSTANT → ⊥) → (inst.op ≡ op.SPEC_CONSTANT_OP → ⊥) → (inst.op ≡ op.VARIABLE → ⊥)
+    → DefinesWord insts entries place 0
+false_left insts entries place inst at is zeros composite a c d e f g h =
+    let o = inst.op in
+    let same_op : inst.op ≡ (inst_at insts place).op = ap (λ (i : Inst). i.op) at in
+    false_here insts entries place inst at (same o op.CONSTANT_FALSE
+    (left (o == op.CONSTANT_TRUE) (o == op.CONSTANT_FALSE) (o == op.CONSTANT) (o == op.SPEC_CONSTANT_TRUE) (o == op.SPEC_CONSTANT_FALSE) (o == op.SPEC_CONSTANT) (o == op.SPEC_CONSTANT_OP) (o == op.VARIABLE) (defines_zeros o) (defines_composite o)
+    (ap defines_value same_op ∙ is) (ap defines_zeros same_op ∙ zeros) (ap defines_composite same_op ∙ composite)
+    (differs o op.CONSTANT_TRUE a) (differs o op.CONSTANT c) (differs o op.SPEC_CONSTANT_TRUE d) (differs o op.SPEC_CONSTANT_FALSE e) (differs o op.SPEC_CONSTANT f) (differs o op.SPEC_CONSTANT_OP g) (differs o op.VARIABLE h)))

@@ -34,3 +34,4 @@ pub mod StepArms
 pub mod StoreWords
 pub mod WalkRuns
 pub mod DefinedWords
+pub mod OperationWords
