@@ -33,3 +33,5 @@ pub mod StartsTo
 pub mod StepArms
 pub mod StoreWords
 pub mod WalkRuns
+pub mod DefinedWords
+pub mod OperationWords
