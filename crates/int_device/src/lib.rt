@@ -1,11 +1,15 @@
 //! The device: what a draw leaves in a target.
 #![tactic(auto)]
 
+mod prepared_stub;
+mod unit;
+
 ghost use Rattle.std.specs.Prelude.{◌≡◌, ◌<◌, [], ◌∷◌, ◌++◌, IfOk, OnOk};
 ghost use Rattle.state_model.specs.declared.parts.Topology.TheVariants.{Points};
 ghost use Rattle.draw_model.specs.Coverage.{is_covered};
 ghost use Rattle.draw_model.specs.Draw.{HasLimitedSides, is_drawn, writes, pixel_after, row_after, image};
 
+pub use crate::unit::Unit;
 pub use draw_model::Target;
 use limits::{COMPONENTS, MAX_SIDE};
 use prerast_lib::{Topology, covers};

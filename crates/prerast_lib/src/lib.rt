@@ -2,11 +2,13 @@
 #![tactic(auto)]
 
 mod coverage;
+mod culling;
 
 ghost use Rattle.std.specs.Prelude.{◌≡◌};
 ghost use Rattle.draw_model.specs.Assembly.{first_vertex};
 
 pub use coverage::covers;
+pub use culling::{facing, is_culled};
 pub use state_model::{Iface, PrerastPart, Topology};
 
 /// A pre-rasterization shaders library: its part, and its module's interface.
