@@ -1,1 +1,3 @@
 mod Ranges
+mod SampleLaws
+mod WordLists

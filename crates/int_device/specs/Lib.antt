@@ -1,1 +1,2 @@
 pub mod PreparedFor
+pub mod SampleRules

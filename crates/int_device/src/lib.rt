@@ -1,7 +1,10 @@
 //! The device: what a draw leaves in a target.
 #![tactic(auto)]
 
+mod fragment;
 mod prepared_stub;
+mod sample_rules;
+mod target_samples;
 mod unit;
 
 ghost use Rattle.std.specs.Prelude.{◌≡◌, ◌<◌, [], ◌∷◌, ◌++◌, IfOk, OnOk};
