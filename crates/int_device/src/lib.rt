@@ -1,6 +1,7 @@
 //! The device: what a draw leaves in a target.
 #![tactic(auto)]
 
+mod canvas;
 mod fragment;
 mod prepared_stub;
 mod sample_rules;
