@@ -1,3 +1,4 @@
+mod CanvasLaws
 mod Ranges
 mod SampleLaws
 mod WordLists

@@ -1,9 +1,9 @@
 -- What becomes of samples, as far as it is the same in a whole draw, and what that makes of one target.
-use Rattle.std.specs.Prelude.{◌≡◌, ℕ, ◌<◌, ◌≤◌, Bool, true, ◌&&◌, if◌then◌else◌, List, [], ◌∷◌, map, slice_get, slice_set, slice_index, slice_index_or, Option, None, Some, IfSome}
+use Rattle.std.specs.Prelude.{◌≡◌, ℕ, ◌<◌, ◌≤◌, Bool, true, ◌&&◌, if◌then◌else◌, List, [], ◌∷◌, map, slice_get, slice_set, slice_index, slice_index_or, filter, Option, None, Some, IfSome}
 use Rattle.std.specs.List.{fold, range_with_len}
 use Rattle.std.specs.Option.{option_map, option_map_or, option_and_then}
 use Rattle.limits.specs.declared.TheConstants.{ATTACHMENTS, COMPONENTS, MAX_SIDE}
-use Rattle.state_model.specs.declared.vulkan.TheConstants.{COMPARE_OP_ALWAYS, LOGIC_OP_SET}
+use Rattle.state_model.specs.declared.vulkan.TheConstants.{COMPARE_OP_ALWAYS, LOGIC_OP_SET, SAMPLE_COUNT_4}
 use Rattle.state_model.specs.declared.format.TheConstants.{FORMAT_R32_UINT}
 use Rattle.state_model.specs.declared.parts.Attachment.{Attachment}
 use Rattle.state_model.specs.declared.parts.Depth.{Depth}
@@ -12,7 +12,7 @@ use Rattle.draw_model.specs.declared.command.Dynamic.{Dynamic}
 use Rattle.draw_model.specs.declared.framebuffer.TheConstants.{DEPTH_FORMAT}
 use Rattle.draw_model.specs.declared.framebuffer.Target.{Target}
 use Rattle.draw_model.specs.declared.framebuffer.Targets.{Targets}
-use Rattle.draw_model.specs.Pixel.{passes_depth, stored_pixel}
+use Rattle.draw_model.specs.Pixel.{passes_depth, stored_pixel, has_bit}
 use Rattle.draw_model.specs.Invocation.{Fragment}
 use Rattle.draw_model.specs.TargetWords.{sample_words, with_sample, suits}
 use Rattle.draw_model.specs.SampleWrites.{FragmentStage, has_output}
@@ -46,8 +46,9 @@ rules_of stage dynamic = record {
   attachments = map (attachment_at stage dynamic) (range_with_len 0 ATTACHMENTS);
 }
 
--- its operations are operations
+-- its numbers are within their limits
 pub record AreRules (rules : SampleRules) : Type 0 where
+  pub samples : rules.samples ≤ SAMPLE_COUNT_4
   pub compare : IfSome rules.depth (λ bound. bound.depth.compare ≤ COMPARE_OP_ALWAYS)
   pub logic : IfSome rules.logic (λ op. op ≤ LOGIC_OP_SET)
 
@@ -125,3 +126,7 @@ sample_by rules f slots targets sample =
     if passes_by rules.depth rules.samples f sample targets
     then locations_by rules f slots sample (with_depth_by rules.depth rules.samples f sample targets)
     else targets
+
+-- after the samples of the mask
+unfoldable pub samples_by : SampleRules → Fragment → List (List ℕ) → Targets → Targets
+samples_by rules f slots targets = fold (sample_by rules f slots) targets (filter (has_bit rules.mask) (range_with_len 0 rules.samples))

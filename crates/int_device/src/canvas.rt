@@ -71,13 +71,7 @@ impl Canvas {
         if number >= self.targets.len() {
             return true;
         }
-        test_depth(
-            &mut self.targets[number],
-            bound.depth,
-            samples,
-            f,
-            sample,
-        )
+        test_depth(&mut self.targets[number], bound.depth, samples, f, sample)
     }
 
     /// Stores the words of an output in a fragment's sample.

@@ -5,6 +5,7 @@ mod canvas;
 mod fragment;
 mod prepared_stub;
 mod sample_rules;
+mod samples;
 mod target_samples;
 mod unit;
 
