@@ -1,10 +1,11 @@
 -- One target of several is changed.
 use Rattle.std.proofs.Common.{◌≡◌, ◌≢◌, ℕ, zero, suc, ◌<◌, ◌≤◌, Bool, true, false, cond, List, [], ◌∷◌, length, refl, ap, sym, ◌∙◌, subst, arith}
-use Rattle.std.specs.Prelude.{Option, None, Some, slice_get, slice_set, slice_index, ◌&&◌}
-use Rattle.std.specs.Option.{option_map_or}
+use Rattle.std.specs.Prelude.{Option, None, Some, slice_get, slice_set, slice_index, slice_index_or, ◌&&◌}
+use Rattle.std.specs.Option.{option_map_or, option_and_then}
 use Rattle.std.proofs.lemmas.Option.{slice_get_past}
 use Rattle.state_model.specs.declared.parts.Attachment.{Attachment}
 use Rattle.state_model.specs.declared.parts.Depth.{Depth}
+use Rattle.state_model.specs.Lawful.{present_at}
 use Rattle.draw_model.specs.declared.framebuffer.TheConstants.{DEPTH_FORMAT}
 use Rattle.draw_model.specs.declared.framebuffer.Target.{Target}
 use Rattle.draw_model.specs.declared.framebuffer.Targets.{Targets}
@@ -69,3 +70,40 @@ pub passes_there : (b : BoundDepth) (samples : ℕ) (f : Fragment) (sample : ℕ
     passes_in b.depth samples f sample t ≡ passes_by (Some b) samples f sample targets
 unfolding passes_by
 passes_there b samples f sample targets t h = rw h refl
+
+-- ---- what a list of options holds at a place
+
+pub present_is : {X : Type 0} (xs : List (Option X)) (n : ℕ) → slice_index_or xs n None ≡ present_at xs n
+present_is [] n = refl
+present_is (x ∷ xs) zero = refl
+present_is (x ∷ xs) (suc n) = present_is xs n
+
+-- ---- a sample that doesn't pass leaves the depth
+
+set_same : (ts : List Target) (n : ℕ) (t : Target) → slice_get ts n ≡ Some t → slice_set ts n t ≡ ts
+set_same [] n t h = refl
+set_same (u ∷ ts) zero t h = let e : u ≡ t = cc in ap (λ (v : Target). v ∷ ts) (sym e)
+set_same (u ∷ ts) (suc n) t h = ap (λ (vs : List Target). u ∷ vs) (set_same ts n t h)
+
+-- a change to itself is none
+pub unchanged : (n : ℕ) (change : Target → Target) (targets : Targets) (found : Option Target) → slice_get targets.list n ≡ found →
+    ((t : Target) → found ≡ Some t → change t ≡ t) → changed_at n change targets ≡ targets
+unchanged n change targets None h k = rw h refl
+unchanged n change targets (Some t) h k =
+    rw h (ap (λ (u : Target). let of : Targets = record { list = slice_set targets.list n u } in of) (k t refl)
+    ∙ ap (λ (ts : List Target). let of : Targets = record { list = ts } in of) (set_same targets.list n t h))
+
+stays_without : (suited passes write : Bool) (new t : Target) → passes ≡ false → cond (suited && passes && write) new t ≡ t
+stays_without true true write new t h = absurd (cc)
+stays_without false true write new t h = absurd (cc)
+stays_without true false write new t h = refl
+stays_without false false write new t h = refl
+
+pub failed_leaves : (bound : Option BoundDepth) (samples : ℕ) (f : Fragment) (sample : ℕ) (targets : Targets) → passes_by bound samples f sample targets ≡ false →
+    with_depth_by bound samples f sample targets ≡ targets
+unfolding passes_by with_depth_by
+failed_leaves None samples f sample targets h = refl
+failed_leaves (Some b) samples f sample targets h =
+    unchanged b.number (with_depth_in b.depth samples f sample) targets (slice_get targets.list b.number) refl
+    (λ t there. stays_without (suits DEPTH_FORMAT samples f t) (passes_in b.depth samples f sample t) b.depth.write (with_sample t f sample (f.depth ∷ [])) t
+    (ap (λ (o : Option Target). option_map_or (passes_in b.depth samples f sample) o true) (sym there) ∙ h))
