@@ -80,7 +80,7 @@ present_is (x ∷ xs) (suc n) = present_is xs n
 
 -- ---- a sample that doesn't pass leaves the depth
 
-set_same : (ts : List Target) (n : ℕ) (t : Target) → slice_get ts n ≡ Some t → slice_set ts n t ≡ ts
+pub set_same : (ts : List Target) (n : ℕ) (t : Target) → slice_get ts n ≡ Some t → slice_set ts n t ≡ ts
 set_same [] n t h = refl
 set_same (u ∷ ts) zero t h = let e : u ≡ t = cc in ap (λ (v : Target). v ∷ ts) (sym e)
 set_same (u ∷ ts) (suc n) t h = ap (λ (vs : List Target). u ∷ vs) (set_same ts n t h)

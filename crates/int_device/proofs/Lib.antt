@@ -1,4 +1,5 @@
 mod CanvasLaws
+mod DrawRules
 mod Ranges
 mod SampleLaws
 mod WordLists
