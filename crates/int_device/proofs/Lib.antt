@@ -1,5 +1,6 @@
 mod CanvasLaws
 mod DrawRules
+mod Outputs
 mod Ranges
 mod SampleLaws
 mod WordLists

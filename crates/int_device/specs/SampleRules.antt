@@ -1,8 +1,16 @@
 -- What becomes of samples, as far as it is the same in a whole draw, and what that makes of one target.
-use Rattle.std.specs.Prelude.{◌≡◌, ℕ, ◌<◌, ◌≤◌, Bool, true, ◌&&◌, if◌then◌else◌, List, [], ◌∷◌, map, slice_get, slice_set, slice_index, slice_index_or, filter, Option, None, Some, IfSome}
+use Rattle.std.specs.Prelude.{◌≡◌, ℕ, ◌<◌, ◌≤◌, ◌==◌, Bool, true, ◌&&◌, if◌then◌else◌, List, [], ◌∷◌, map, slice_get, slice_set, slice_index, slice_index_or, filter, Option, None, Some, IfSome}
 use Rattle.std.specs.List.{fold, range_with_len}
 use Rattle.std.specs.Option.{option_map, option_map_or, option_and_then}
 use Rattle.limits.specs.declared.TheConstants.{ATTACHMENTS, COMPONENTS, MAX_SIDE}
+use Rattle.spirv_model.specs.declared.module.Inst.{Inst}
+use Rattle.spirv_model.specs.declared.op.TheConstants as op
+use Rattle.spirv_model.specs.declared.storage_class.TheConstants as class
+use Rattle.spirv_model.specs.declared.decoration.TheConstants.{LOCATION}
+use Rattle.spirv_model.specs.Operands.{word_at}
+use Rattle.spv_types.specs.declared.ids.Ids.{Ids}
+use Rattle.spv_types.specs.Answers.{decoration_at}
+use Rattle.stage_model.specs.Stage.{is_number}
 use Rattle.state_model.specs.declared.vulkan.TheConstants.{COMPARE_OP_ALWAYS, LOGIC_OP_SET, SAMPLE_COUNT_4}
 use Rattle.state_model.specs.declared.format.TheConstants.{FORMAT_R32_UINT}
 use Rattle.state_model.specs.declared.parts.Attachment.{Attachment}
@@ -45,6 +53,11 @@ rules_of stage dynamic = record {
   logic = stage.output.logic;
   attachments = map (attachment_at stage dynamic) (range_with_len 0 ATTACHMENTS);
 }
+
+-- the instruction makes an Output variable at the location, as the ids tell
+abbrev pub is_output_told : Ids → ℕ → Inst → Bool
+is_output_told ids location inst =
+    (inst.op == op.VARIABLE) && (word_at 2 inst == class.OUTPUT) && is_number location (decoration_at ids (word_at 1 inst) LOCATION)
 
 -- its numbers are within their limits
 pub record AreRules (rules : SampleRules) : Type 0 where

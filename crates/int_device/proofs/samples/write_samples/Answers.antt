@@ -13,13 +13,13 @@ loop-sample-preserved c =
     let after = sample_by c.args.rules.now (told c.args.f.now) c.args.slots.now in
     let test = has_bit c.args.rules.now.mask in
     elim c.if-is_in_mask.branch [
-      then-is_in_mask w ↦
-        w.canvas-is ∙ w.write_sample.ensures
-        ∙ ap (λ (ts : Targets). after ts c.loop-sample.sample) c.loop-sample.invariant
-        ∙ sym (fold_taken after c.args.canvas.now test c.loop-sample.sample (sym c.is_in_mask.ensures ∙ w.if-is_in_mask.true))
-    | else-is_in_mask w ↦
-        w.canvas-is ∙ c.loop-sample.invariant
-        ∙ sym (fold_left_out after c.args.canvas.now test c.loop-sample.sample (sym c.is_in_mask.ensures ∙ w.if-is_in_mask.false))
+      | then-is_in_mask w ↦
+          w.canvas-is ∙ w.write_sample.ensures
+          ∙ ap (λ (ts : Targets). after ts c.loop-sample.sample) c.loop-sample.invariant
+          ∙ sym (fold_taken after c.args.canvas.now test c.loop-sample.sample (sym c.is_in_mask.ensures ∙ w.if-is_in_mask.true))
+      | else-is_in_mask w ↦
+          w.canvas-is ∙ c.loop-sample.invariant
+          ∙ sym (fold_left_out after c.args.canvas.now test c.loop-sample.sample (sym c.is_in_mask.ensures ∙ w.if-is_in_mask.false))
     ]
 
 pub returns : goal.returns
