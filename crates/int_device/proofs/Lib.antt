@@ -3,4 +3,5 @@ mod DrawRules
 mod Outputs
 mod Ranges
 mod SampleLaws
+mod Shades
 mod WordLists

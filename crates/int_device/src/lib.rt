@@ -4,8 +4,10 @@
 mod canvas;
 mod fragment;
 mod prepared_stub;
+mod primitive;
 mod sample_rules;
 mod samples;
+mod shading;
 mod target_samples;
 mod unit;
 

@@ -1,0 +1,141 @@
+//! The fragment shader of a draw, run for each fragment of a primitive.
+ghost use Rattle.std.specs.Prelude.{◌≡◌, ◌<◌, ◌≤◌, ◌+◌, ◌^◌, [], ◌∷◌, length, slice_index, IfOk, if◌then◌else◌};
+ghost use Rattle.state_model.specs.Lawful.{IsFragmentPart, IsOutputPart};
+ghost use Rattle.stage_model.specs.Stage.{ended_of};
+ghost use Rattle.draw_model.specs.Invocation.{fragment_inputs, writes};
+ghost use Rattle.draw_model.specs.LawfulDraw.{IsSide};
+ghost use Rattle.draw_model.specs.WholeDraw.{fragment_outcome};
+ghost use Rattle.int_device.specs.SampleRules.{AreRules, IsPlace, rules_of, samples_by, told};
+ghost use Rattle.int_device.specs.Draws.{Draws, Shade, IsShading, fragments_at, fragments_in_row, fragments_in_layer, fragments_by};
+
+use crate::canvas::Canvas;
+use crate::fragment::Fragment;
+use crate::prepared_stub::Prepared;
+use crate::primitive::Primitive;
+use crate::sample_rules::{SampleRules, rules_of};
+use crate::samples::write_samples;
+use draw_model::Dynamic;
+use limits::MODULE_WORDS;
+use spv_check::Module;
+use stage_model::{Ended, Inputs, Kind};
+use state_model::{Buffers, FragmentPart, OutputPart};
+use std::alloc::{AllocError, Global};
+use std::marker::Model;
+
+/// The fragment shader of a draw, ready to run, and what becomes of its fragments.
+#[derive(Drop)]
+pub struct Shading<'a> {
+    run: Prepared<'a>,
+    part: FragmentPart,
+    output: OutputPart,
+    dynamic: &'a Dynamic,
+    buffers: &'a Buffers,
+    rules: SampleRules,
+}
+
+impl<'a> Model for Shading<'a> {
+    ghost use Rattle.int_device.specs.Draws.{Shade, IsShading};
+
+    ghost Value = { Shade };
+
+    ghost view = { λ s. record {
+      stage = record { insts = s.run.words.insts; part = s.part; output = s.output };
+      dynamic = s.dynamic.now;
+      buffers = s.buffers.now;
+    } };
+
+    ghost invariant = { λ s. IsShading s.run s.part s.output s.dynamic.now s.rules };
+}
+
+impl<'a> Shading<'a> {
+    /// The shader with these parts. Only want of memory is an error.
+    pub fn new(
+        alloc: Global,
+        shader: &'a Module,
+        part: &FragmentPart,
+        output: &OutputPart,
+        dynamic: &'a Dynamic,
+        buffers: &'a Buffers,
+    ) -> Result<Shading<'a>, AllocError>
+        requires few { length shader.now.insts ≤ MODULE_WORDS }
+        requires part { IsFragmentPart part.now }
+        requires output { IsOutputPart output.now }
+        requires scissor_x { IsSide (slice_index dynamic.now.scissor 0) (slice_index dynamic.now.scissor 2) }
+        requires scissor_y { IsSide (slice_index dynamic.now.scissor 1) (slice_index dynamic.now.scissor 3) }
+        ensures { IfOk result (λ s. s ≡ record {
+          stage = record { insts = shader.now.insts; part = part.now; output = output.now };
+          dynamic = dynamic.now;
+          buffers = buffers.now;
+        }) }
+    {
+        let run = Prepared::new(alloc, shader, &part.entries)?;
+        Ok(Shading {
+            run,
+            part: *part,
+            output: *output,
+            dynamic,
+            buffers,
+            rules: rules_of(shader, part, output, dynamic),
+        })
+    }
+
+    // What the invocation of a fragment leaves.
+    fn outcome(&mut self, f: &Fragment) -> Ended
+        ensures is { let s = self.old in
+            result ≡ ended_of (fragment_outcome s.stage s.dynamic s.buffers (told f.now)) }
+        ensures bound { result.work ≤ 2 ^ 27 }
+        ensures same { self.new ≡ self.old }
+    {
+        let inputs = inputs_of(self.dynamic, f);
+        self.run.run(&inputs, self.buffers)
+    }
+
+    // One fragment: its invocation, and the samples that it writes.
+    fn shade(&mut self, f: &Fragment, canvas: &mut Canvas) -> u64
+        requires { IsPlace f.now }
+        ensures draws { Draws self.old canvas.old canvas.new result (told f.now ∷ []) }
+        ensures bound { result ≤ 2 ^ 27 }
+        ensures same { self.new ≡ self.old }
+    {
+        let ended = self.outcome(f);
+        write_outcome(canvas, &self.rules, f, &ended);
+        ended.work
+    }
+}
+
+// The samples that a fragment's invocation writes with what it leaves.
+fn write_outcome(canvas: &mut Canvas, rules: &SampleRules, f: &Fragment, ended: &Ended)
+    requires within { IsPlace f.now }
+    requires rules { AreRules rules.now }
+    ensures { canvas.new ≡ (if writes ended.now.kind
+        then samples_by rules.now (told f.now) ended.now.slots canvas.old
+        else canvas.old) }
+{
+    if writes(ended.kind) {
+        write_samples(canvas, rules, f, &ended.slots);
+    }
+}
+
+#[tactic(auto, unfolding(draw_model::specs::Invocation::fragment_inputs))]
+fn inputs_of(dynamic: &Dynamic, f: &Fragment) -> Inputs
+    ensures { result ≡ fragment_inputs dynamic.now (told f.now) }
+{
+    Inputs {
+        slots: f.slots,
+        vertex_index: 0,
+        instance_index: 0,
+        frag_coord: [f.x, f.y, f.depth, 0],
+        front: f.front,
+        push: dynamic.push,
+        uniforms: dynamic.uniforms,
+    }
+}
+
+fn writes(kind: Kind) -> bool
+    ensures { result ≡ writes kind }
+{
+    match kind {
+        Kind::Done => true,
+        Kind::Killed | Kind::Lost => false,
+    }
+}
