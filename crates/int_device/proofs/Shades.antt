@@ -1,9 +1,12 @@
 -- Invocations of a fragment shader, and what they leave.
-use Rattle.std.proofs.Common.{◌≡◌, ℕ, ◌+◌, ◌*◌, ◌^◌, ◌<◌, ◌≤◌, ◌⊎◌, inl, inr, Bool, true, false, cond, List, [], ◌∷◌, ◌++◌, length, refl, ap, sym, ◌∙◌, subst, arith, lit≤}
+use Rattle.std.proofs.Common.{◌≡◌, ℕ, ◌+◌, ◌*◌, ◌^◌, ◌<◌, ◌≤◌, ◌⊎◌, inl, inr, Bool, true, false, cond, List, [], ◌∷◌, ◌++◌, length, refl, ap, sym, ◌∙◌, subst, arith, append-nil, zero-add}
 use Rattle.std.specs.Prelude.{Option, None, Some, sum, map, unwrap_or, IfSome, IfOk}
 use Rattle.std.specs.Option.{option_map}
-use Rattle.std.specs.List.{fold}
+use Rattle.std.specs.List.{fold, filter, flat_map, range_with_len}
 use Rattle.std.proofs.Math.Nat.{mul-le-mul_left}
+use Rattle.std.proofs.lemmas.List.{map-append}
+use Rattle.std.proofs.lemmas.Grind.{flat_map-append}
+use Rattle.std.proofs.lemmas.List.Sums.{fold-append, sum_by-append}
 use Rattle.limits.specs.declared.TheConstants.{MODULE_WORDS, BACK_EDGES}
 use Rattle.spirv_model.specs.declared.module.Inst.{Inst}
 use Rattle.state_model.specs.declared.vulkan.TheConstants.{COMPARE_OP_ALWAYS, LOGIC_OP_SET, SAMPLE_COUNT_4}
@@ -20,14 +23,18 @@ use Rattle.stage_model.specs.Stage.{Outcome, stage, ended_of, enough_steps}
 use Rattle.stage_model.proofs.WorkCounts.{stage_work}
 use Rattle.draw_model.specs.declared.command.Dynamic.{Dynamic}
 use Rattle.draw_model.specs.declared.framebuffer.Targets.{Targets}
+use Rattle.draw_model.specs.Coverage.{is_covered}
+use Rattle.draw_model.specs.Pixel.{has_bit}
 use Rattle.draw_model.specs.Invocation.{Fragment, invoked, no_outcome, writes, fragment_inputs}
 use Rattle.draw_model.specs.SampleWrites.{FragmentStage, after_sample, samples_of}
 use Rattle.draw_model.specs.WholeDraw.{fragment_outcome, after_outcome, after_fragment, fragment_work}
 use Rattle.int_device.specs.declared.sample_rules.BoundDepth.{BoundDepth}
 use Rattle.int_device.specs.PreparedFor.{PreparedFor}
 use Rattle.int_device.specs.SampleRules.{AreRules, bound_depth, rules_of, samples_by}
-use Rattle.int_device.specs.Draws.{Shade, Draws}
+use Rattle.int_device.specs.declared.primitive.Primitive.{Primitive}
+use Rattle.int_device.specs.Draws.{Shade, Draws, fragment_by, fragments_at, fragments_in_row, fragments_in_layer, fragments_if_masked, fragments_in_layers}
 use Rattle.int_device.proofs.DrawRules.{samples_law}
+use Rattle.int_device.proofs.Ranges.{range_from_more, filtered_more}
 
 -- ---- invocations
 
@@ -111,3 +118,60 @@ drawn_one s before after work f e is steps written = record {
   image = written ∙ outcome_by s before f e (fragment_outcome s.stage s.dynamic s.buffers f) (writes e.kind) is refl;
   steps = steps ∙ ap (λ (x : Ended). x.work) is ∙ sym (sum_one (fragment_outcome s.stage s.dynamic s.buffers f).work);
 }
+
+-- ---- one after another
+
+pub draws_none : (s : Shade) (t : Targets) → Draws s t t 0 []
+draws_none s t = record { image = refl; steps = refl }
+
+pub draws_more : (s : Shade) (a b c : Targets) (w v : ℕ) (xs ys : List Fragment) → Draws s a b w xs → Draws s b c v ys → Draws s a c (w + v) (xs ++ ys)
+draws_more s a b c w v xs ys h k =
+    let work = λ (f : Fragment). (fragment_outcome s.stage s.dynamic s.buffers f).work in
+    record {
+      image = k.image ∙ ap (λ (t : Targets). fold (after_fragment s.stage s.dynamic s.buffers) t ys) h.image ∙ sym (fold-append (after_fragment s.stage s.dynamic s.buffers) a xs ys);
+      steps = ap (λ (n : ℕ). n + v) h.steps ∙ ap (λ (n : ℕ). fragment_work s.stage s.dynamic s.buffers xs + n) k.steps
+          ∙ sym (sum_by-append (λ (n : ℕ). n) (map work xs) (map work ys)) ∙ ap sum (sym (map-append work xs ys));
+    }
+
+-- the next ones, by a stage that is the same
+pub draws_next : (s now : Shade) (a b c : Targets) (w v : ℕ) (xs ys zs : List Fragment) → now ≡ s → Draws s a b w xs → Draws now b c v ys → zs ≡ xs ++ ys → Draws s a c (w + v) zs
+draws_next s now a b c w v xs ys zs same h k e =
+    subst (λ (fs : List Fragment). Draws s a c (w + v) fs) (sym e) (draws_more s a b c w v xs ys h (subst (λ (of : Shade). Draws of b c v ys) same k))
+
+-- ---- lists of fragments
+
+chosen_map : (f : ℕ → Fragment) (x : ℕ) (b : Bool) → map f (cond b (x ∷ []) []) ≡ cond b (f x ∷ []) []
+chosen_map f x true = refl
+chosen_map f x false = refl
+
+pub row_more : (p : Primitive) (left i layer y : ℕ) → fragments_in_row p left (i + 1) layer y ≡ fragments_in_row p left i layer y ++ fragments_at p layer y (left + i)
+row_more p left i layer y =
+    let test = λ (x : ℕ). is_covered p.topology p.corners x y in
+    ap (map (fragment_by p layer y)) (filtered_more test left i)
+    ∙ map-append (fragment_by p layer y) (filter test (range_with_len left i)) (cond (test (left + i)) ((left + i) ∷ []) [])
+    ∙ ap (λ (fs : List Fragment). fragments_in_row p left i layer y ++ fs) (chosen_map (fragment_by p layer y) (left + i) (test (left + i)))
+
+flat_one : {A : Type 0} (f : ℕ → List A) (n : ℕ) → flat_map f (n ∷ []) ≡ f n
+flat_one f n = append-nil (f n)
+
+pub layer_more : (p : Primitive) (left width top i layer : ℕ) →
+    fragments_in_layer p left width top (i + 1) layer ≡ fragments_in_layer p left width top i layer ++ fragments_in_row p left width layer (top + i)
+layer_more p left width top i layer =
+    let row = fragments_in_row p left width layer in
+    ap (flat_map row) (range_from_more top i)
+    ∙ flat_map-append row (range_with_len top i) ((top + i) ∷ [])
+    ∙ ap (λ (fs : List Fragment). fragments_in_layer p left width top i layer ++ fs) (flat_one row (top + i))
+
+chosen_flat : {A : Type 0} (f : ℕ → List A) (n : ℕ) (b : Bool) → flat_map f (cond b (n ∷ []) []) ≡ cond b (f n) []
+chosen_flat f n true = flat_one f n
+chosen_flat f n false = refl
+
+pub layers_more : (p : Primitive) (left width top height mask n : ℕ) →
+    fragments_in_layers p left width top height mask (n + 1)
+    ≡ fragments_in_layers p left width top height mask n ++ fragments_if_masked p left width top height mask n
+layers_more p left width top height mask n =
+    let layer = fragments_in_layer p left width top height in
+    ap (flat_map layer) (filtered_more (has_bit mask) 0 n)
+    ∙ ap (λ (m : ℕ). flat_map layer (filter (has_bit mask) (range_with_len 0 n) ++ cond (has_bit mask m) (m ∷ []) [])) (zero-add n)
+    ∙ flat_map-append layer (filter (has_bit mask) (range_with_len 0 n)) (cond (has_bit mask n) (n ∷ []) [])
+    ∙ ap (λ (fs : List Fragment). fragments_in_layers p left width top height mask n ++ fs) (chosen_flat layer n (has_bit mask n))

@@ -8,6 +8,7 @@ use Rattle.state_model.specs.declared.parts.OutputPart.{OutputPart}
 use Rattle.draw_model.specs.declared.command.Dynamic.{Dynamic}
 use Rattle.draw_model.specs.declared.framebuffer.Targets.{Targets}
 use Rattle.draw_model.specs.Coverage.{is_covered}
+use Rattle.draw_model.specs.Pixel.{has_bit}
 use Rattle.draw_model.specs.Invocation.{Fragment}
 use Rattle.draw_model.specs.SampleWrites.{FragmentStage}
 use Rattle.draw_model.specs.WholeDraw.{layers_of, after_fragment, fragment_work}
@@ -61,6 +62,16 @@ fragments_in_row p left width layer y =
 -- in so many rows of a layer
 abbrev pub fragments_in_layer : Primitive → (left width top height : ℕ) → (layer : ℕ) → List Fragment
 fragments_in_layer p left width top height layer = flat_map (fragments_in_row p left width layer) (range_with_len top height)
+
+-- in a layer, where a mask has it
+abbrev pub fragments_if_masked : Primitive → (left width top height : ℕ) → (mask layer : ℕ) → List Fragment
+fragments_if_masked p left width top height mask layer =
+    if has_bit mask layer then fragments_in_layer p left width top height layer else []
+
+-- in the first n layers, as far as a mask has them
+abbrev pub fragments_in_layers : Primitive → (left width top height : ℕ) → (mask n : ℕ) → List Fragment
+fragments_in_layers p left width top height mask n =
+    flat_map (fragments_in_layer p left width top height) (filter (has_bit mask) (range_with_len 0 n))
 
 -- in the scissor, layer by layer
 unfoldable pub fragments_by : Primitive → Dynamic → (view_mask : ℕ) → List Fragment

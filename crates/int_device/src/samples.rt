@@ -58,7 +58,8 @@ pub fn write_samples(canvas: &mut Canvas, rules: &SampleRules, f: &Fragment, slo
     }
 }
 
-fn is_in_mask(mask: u8, sample: u8) -> bool
+/// Whether the mask has the bit.
+pub fn is_in_mask(mask: u8, sample: u8) -> bool
     requires { sample < 8 }
     ensures { result ≡ has_bit mask sample }
 {

@@ -6,19 +6,20 @@ ghost use Rattle.draw_model.specs.Invocation.{fragment_inputs, writes};
 ghost use Rattle.draw_model.specs.LawfulDraw.{IsSide};
 ghost use Rattle.draw_model.specs.WholeDraw.{fragment_outcome};
 ghost use Rattle.int_device.specs.SampleRules.{AreRules, IsPlace, rules_of, samples_by, told};
-ghost use Rattle.int_device.specs.Draws.{Draws, Shade, IsShading, fragments_at, fragments_in_row, fragments_in_layer, fragments_by};
+ghost use Rattle.int_device.specs.Draws.{Draws, Shade, IsShading, fragments_at, fragments_in_row, fragments_in_layer, fragments_if_masked, fragments_in_layers, fragment_by};
 
 use crate::canvas::Canvas;
 use crate::fragment::Fragment;
 use crate::prepared_stub::Prepared;
 use crate::primitive::Primitive;
 use crate::sample_rules::{SampleRules, rules_of};
-use crate::samples::write_samples;
+use crate::samples::{is_in_mask, write_samples};
 use draw_model::Dynamic;
-use limits::MODULE_WORDS;
+use limits::{MAX_SIDE, MODULE_WORDS};
+use prerast_lib::covers;
 use spv_check::Module;
 use stage_model::{Ended, Inputs, Kind};
-use state_model::{Buffers, FragmentPart, OutputPart};
+use state_model::{Buffers, FragmentPart, OutputPart, VIEWS};
 use std::alloc::{AllocError, Global};
 use std::marker::Model;
 
@@ -100,6 +101,132 @@ impl<'a> Shading<'a> {
         let ended = self.outcome(f);
         write_outcome(canvas, &self.rules, f, &ended);
         ended.work
+    }
+
+    // A pixel, where the primitive covers it.
+    fn pixel(&mut self, p: &Primitive, layer: u8, y: u32, x: u32, canvas: &mut Canvas) -> u64
+        requires x { x < MAX_SIDE }
+        requires y { y < MAX_SIDE }
+        ensures draws { Draws self.old canvas.old canvas.new result (fragments_at p.now layer y x) }
+        ensures bound { result ≤ 2 ^ 27 }
+        ensures same { self.new ≡ self.old }
+    {
+        if !covers(p.topology, &p.corners, x, y) {
+            return 0;
+        }
+        let f = fragment_by(p, layer, y, x);
+        self.shade(&f, canvas)
+    }
+
+    // So many columns of a row.
+    fn row(
+        &mut self,
+        p: &Primitive,
+        left: u32,
+        width: u32,
+        layer: u8,
+        y: u32,
+        canvas: &mut Canvas,
+    ) -> u64
+        requires columns { left + width ≤ MAX_SIDE }
+        requires y { y < MAX_SIDE }
+        ensures draws { Draws self.old canvas.old canvas.new result (fragments_in_row p.now left width layer y) }
+        ensures bound { result ≤ 2 ^ 35 }
+        ensures same { self.new ≡ self.old }
+    {
+        let mut work = 0;
+        for i in 0..width {
+            work += self.pixel(p, layer, y, left + i, canvas);
+        }
+        work
+    }
+
+    // So many rows of a layer.
+    fn layer(
+        &mut self,
+        p: &Primitive,
+        columns: (u32, u32),
+        rows: (u32, u32),
+        layer: u8,
+        canvas: &mut Canvas,
+    ) -> u64
+        requires columns { columns.0 + columns.1 ≤ MAX_SIDE }
+        requires rows { rows.0 + rows.1 ≤ MAX_SIDE }
+        ensures draws { Draws self.old canvas.old canvas.new result
+            (fragments_in_layer p.now columns.0 columns.1 rows.0 rows.1 layer) }
+        ensures bound { result ≤ 2 ^ 43 }
+        ensures same { self.new ≡ self.old }
+    {
+        let (left, width) = columns;
+        let (top, height) = rows;
+        let mut work = 0;
+        for i in 0..height {
+            work += self.row(p, left, width, layer, top + i, canvas);
+        }
+        work
+    }
+
+    // A layer, where the mask has it.
+    fn masked_layer(
+        &mut self,
+        p: &Primitive,
+        columns: (u32, u32),
+        rows: (u32, u32),
+        mask: u8,
+        layer: u8,
+        canvas: &mut Canvas,
+    ) -> u64
+        requires columns { columns.0 + columns.1 ≤ MAX_SIDE }
+        requires rows { rows.0 + rows.1 ≤ MAX_SIDE }
+        requires layer { layer < VIEWS }
+        ensures draws { Draws self.old canvas.old canvas.new result
+            (fragments_if_masked p.now columns.0 columns.1 rows.0 rows.1 mask layer) }
+        ensures bound { result ≤ 2 ^ 43 }
+        ensures same { self.new ≡ self.old }
+    {
+        if is_in_mask(mask, layer) {
+            self.layer(p, columns, rows, layer, canvas)
+        } else {
+            0
+        }
+    }
+
+    // The layers of a mask.
+    fn layers(
+        &mut self,
+        p: &Primitive,
+        columns: (u32, u32),
+        rows: (u32, u32),
+        mask: u8,
+        canvas: &mut Canvas,
+    ) -> u64
+        requires columns { columns.0 + columns.1 ≤ MAX_SIDE }
+        requires rows { rows.0 + rows.1 ≤ MAX_SIDE }
+        ensures draws { Draws self.old canvas.old canvas.new result
+            (fragments_in_layers p.now columns.0 columns.1 rows.0 rows.1 mask VIEWS) }
+        ensures bound { result ≤ 2 ^ 45 }
+        ensures same { self.new ≡ self.old }
+    {
+        let mut work = 0;
+        for layer in 0..VIEWS as u8 {
+            work += self.masked_layer(p, columns, rows, mask, layer, canvas);
+        }
+        work
+    }
+}
+
+fn fragment_by(p: &Primitive, layer: u8, y: u32, x: u32) -> Fragment
+    ensures is { told result ≡ fragment_by p.now layer y x }
+    ensures x { result.x ≡ x }
+    ensures y { result.y ≡ y }
+{
+    Fragment {
+        layer,
+        x,
+        y,
+        depth: p.corners[0][2],
+        front: p.front,
+        slots: p.slots,
     }
 }
 
