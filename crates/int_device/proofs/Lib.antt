@@ -3,5 +3,6 @@ mod DrawRules
 mod Outputs
 mod Ranges
 mod SampleLaws
+mod SceneLaws
 mod Shades
 mod WordLists

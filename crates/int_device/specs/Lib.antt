@@ -1,3 +1,4 @@
 pub mod Draws
 pub mod PreparedFor
 pub mod SampleRules
+pub mod Scenes

@@ -1,6 +1,7 @@
 //! The device: what a draw leaves in a target.
 #![tactic(auto)]
 
+mod assembled;
 mod canvas;
 mod fragment;
 mod prepared_stub;
@@ -10,6 +11,7 @@ mod samples;
 mod shading;
 mod target_samples;
 mod unit;
+mod vertices;
 
 ghost use Rattle.std.specs.Prelude.{◌≡◌, ◌<◌, [], ◌∷◌, ◌++◌, IfOk, OnOk};
 ghost use Rattle.state_model.specs.declared.parts.Topology.TheVariants.{Points};
