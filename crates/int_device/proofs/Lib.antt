@@ -1,6 +1,7 @@
 mod CanvasLaws
 mod DrawRules
 mod Outputs
+mod PrimitiveLaws
 mod Ranges
 mod SampleLaws
 mod SceneLaws

@@ -1,6 +1,6 @@
 -- Invocations of a fragment shader, and what they leave.
 use Rattle.std.proofs.Common.{◌≡◌, ℕ, ◌+◌, ◌*◌, ◌^◌, ◌<◌, ◌≤◌, ◌⊎◌, inl, inr, Bool, true, false, cond, List, [], ◌∷◌, ◌++◌, length, refl, ap, sym, ◌∙◌, subst, arith, append-nil, zero-add}
-use Rattle.std.specs.Prelude.{Option, None, Some, sum, map, unwrap_or, IfSome, IfOk}
+use Rattle.std.specs.Prelude.{Option, None, Some, ◌==◌, sum, map, unwrap_or, slice_index, IfSome, IfOk}
 use Rattle.std.specs.Option.{option_map}
 use Rattle.std.specs.List.{fold, filter, flat_map, range_with_len}
 use Rattle.std.proofs.Math.Nat.{mul-le-mul_left}
@@ -9,6 +9,7 @@ use Rattle.std.proofs.lemmas.Grind.{flat_map-append}
 use Rattle.std.proofs.lemmas.List.Sums.{fold-append, sum_by-append}
 use Rattle.limits.specs.declared.TheConstants.{MODULE_WORDS, BACK_EDGES}
 use Rattle.spirv_model.specs.declared.module.Inst.{Inst}
+use Rattle.state_model.specs.declared.TheConstants.{VIEWS}
 use Rattle.state_model.specs.declared.vulkan.TheConstants.{COMPARE_OP_ALWAYS, LOGIC_OP_SET, SAMPLE_COUNT_4}
 use Rattle.state_model.specs.declared.buffers.Buffers.{Buffers}
 use Rattle.state_model.specs.declared.parts.Depth.{Depth}
@@ -27,12 +28,12 @@ use Rattle.draw_model.specs.Coverage.{is_covered}
 use Rattle.draw_model.specs.Pixel.{has_bit}
 use Rattle.draw_model.specs.Invocation.{Fragment, invoked, no_outcome, writes, fragment_inputs}
 use Rattle.draw_model.specs.SampleWrites.{FragmentStage, after_sample, samples_of}
-use Rattle.draw_model.specs.WholeDraw.{fragment_outcome, after_outcome, after_fragment, fragment_work}
+use Rattle.draw_model.specs.WholeDraw.{layers_of, fragment_outcome, after_outcome, after_fragment, fragment_work}
 use Rattle.int_device.specs.declared.sample_rules.BoundDepth.{BoundDepth}
 use Rattle.int_device.specs.PreparedFor.{PreparedFor}
 use Rattle.int_device.specs.SampleRules.{AreRules, bound_depth, rules_of, samples_by}
 use Rattle.int_device.specs.declared.primitive.Primitive.{Primitive}
-use Rattle.int_device.specs.Draws.{Shade, Draws, fragment_by, fragments_at, fragments_in_row, fragments_in_layer, fragments_if_masked, fragments_in_layers}
+use Rattle.int_device.specs.Draws.{Shade, Draws, fragment_by, fragments_at, fragments_in_row, fragments_in_layer, fragments_if_masked, fragments_in_layers, some_mask, fragments_by}
 use Rattle.int_device.proofs.DrawRules.{samples_law}
 use Rattle.int_device.proofs.Ranges.{range_from_more, filtered_more}
 
@@ -175,3 +176,24 @@ layers_more p left width top height mask n =
     ∙ ap (λ (m : ℕ). flat_map layer (filter (has_bit mask) (range_with_len 0 n) ++ cond (has_bit mask m) (m ∷ []) [])) (zero-add n)
     ∙ flat_map-append layer (filter (has_bit mask) (range_with_len 0 n)) (cond (has_bit mask n) (n ∷ []) [])
     ∙ ap (λ (fs : List Fragment). fragments_in_layers p left width top height mask n ++ fs) (chosen_flat layer n (has_bit mask n))
+
+masked_layers : (mask : ℕ) (none : Bool) → (mask == 0) ≡ none → layers_of mask ≡ filter (has_bit (some_mask mask)) (range_with_len 0 VIEWS)
+masked_layers mask true h = rw h refl
+masked_layers mask false h = rw h refl
+
+pub fragments_are : (p : Primitive) (dynamic : Dynamic) (mask : ℕ) →
+    fragments_in_layers p (slice_index dynamic.scissor 0) (slice_index dynamic.scissor 2) (slice_index dynamic.scissor 1) (slice_index dynamic.scissor 3) (some_mask mask) VIEWS
+    ≡ fragments_by p dynamic mask
+unfolding fragments_by
+fragments_are p dynamic mask =
+    ap (flat_map (fragments_in_layer p (slice_index dynamic.scissor 0) (slice_index dynamic.scissor 2) (slice_index dynamic.scissor 1) (slice_index dynamic.scissor 3)))
+    (sym (masked_layers mask (mask == 0) refl))
+
+-- the same of a stage that is this one
+pub draws_by : (s of : Shade) (before after : Targets) (work : ℕ) (p : Primitive) (mask some : ℕ) → of ≡ s → some ≡ some_mask mask →
+    Draws s before after work (fragments_in_layers p (slice_index of.dynamic.scissor 0) (slice_index of.dynamic.scissor 2) (slice_index of.dynamic.scissor 1) (slice_index of.dynamic.scissor 3) some VIEWS) →
+    Draws s before after work (fragments_by p s.dynamic mask)
+draws_by s of before after work p mask some same masked h =
+    subst (Draws s before after work)
+    (ap (λ (m : ℕ). fragments_in_layers p (slice_index of.dynamic.scissor 0) (slice_index of.dynamic.scissor 2) (slice_index of.dynamic.scissor 1) (slice_index of.dynamic.scissor 3) m VIEWS) masked
+    ∙ fragments_are p of.dynamic mask ∙ ap (λ (u : Shade). fragments_by p u.dynamic mask) same) h

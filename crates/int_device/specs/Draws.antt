@@ -1,5 +1,5 @@
 -- What is drawn by a fragment shader: the fragments of a primitive, and what they make of the targets.
-use Rattle.std.specs.Prelude.{◌≡◌, ℕ, ◌+◌, ◌≤◌, Bool, if◌then◌else◌, List, [], ◌∷◌, map, filter, length, slice_index, slice_index_or}
+use Rattle.std.specs.Prelude.{◌≡◌, ◌==◌, ℕ, ◌+◌, ◌≤◌, Bool, if◌then◌else◌, List, [], ◌∷◌, map, filter, length, slice_index, slice_index_or}
 use Rattle.std.specs.List.{fold, flat_map, range_with_len}
 use Rattle.limits.specs.declared.TheConstants.{MODULE_WORDS}
 use Rattle.state_model.specs.declared.buffers.Buffers.{Buffers}
@@ -72,6 +72,10 @@ fragments_if_masked p left width top height mask layer =
 abbrev pub fragments_in_layers : Primitive → (left width top height : ℕ) → (mask n : ℕ) → List Fragment
 fragments_in_layers p left width top height mask n =
     flat_map (fragments_in_layer p left width top height) (filter (has_bit mask) (range_with_len 0 n))
+
+-- without views it is layer 0
+abbrev pub some_mask : ℕ → ℕ
+some_mask mask = if mask == 0 then 1 else mask
 
 -- in the scissor, layer by layer
 unfoldable pub fragments_by : Primitive → Dynamic → (view_mask : ℕ) → List Fragment

@@ -7,6 +7,7 @@ use Rattle.state_model.specs.declared.buffers.Buffers.{Buffers}
 use Rattle.state_model.specs.declared.parts.Topology.{Topology}
 use Rattle.state_model.specs.declared.parts.Topology.TheVariants.{Points, Triangles}
 use Rattle.state_model.specs.declared.parts.VertexPart.{VertexPart}
+use Rattle.state_model.specs.declared.parts.PrerastPart.{PrerastPart}
 use Rattle.state_model.specs.declared.parts.State.{State}
 use Rattle.state_model.specs.Lawful.{IsVertexPart}
 use Rattle.stage_model.specs.declared.outcome.Ended.{Ended}
@@ -64,15 +65,15 @@ assembled_in s Triangles instance primitive = triangle_of (ended_of (outcome_in 
     (ended_of (outcome_in s instance (3 * primitive + 1))) (ended_of (outcome_in s instance (3 * primitive + 2)))
 
 -- the fragments of a whole primitive by its facing; none, where it is outside the guard band, or culled
-abbrev pub fragments_faced : State → Dynamic → Assembled → Option Bool → List Fragment
-fragments_faced state dynamic a None = []
-fragments_faced state dynamic a (Some front) =
-    if is_culled state.vertex.topology state.prerast.cull front then []
-    else fragments_by (record { topology = state.vertex.topology; corners = a.corners; front = front; slots = a.slots }) dynamic state.prerast.view_mask
+abbrev pub fragments_faced : Topology → PrerastPart → Dynamic → Assembled → Option Bool → List Fragment
+fragments_faced topology part dynamic a None = []
+fragments_faced topology part dynamic a (Some front) =
+    if is_culled topology part.cull front then []
+    else fragments_by (record { topology = topology; corners = a.corners; front = front; slots = a.slots }) dynamic part.view_mask
 
-unfoldable pub fragments_assembled : State → Dynamic → Assembled → List Fragment
-fragments_assembled state dynamic a =
-    if a.whole then fragments_faced state dynamic a (facing_of state.vertex.topology state.prerast.ccw a.corners) else []
+unfoldable pub fragments_assembled : Topology → PrerastPart → Dynamic → Assembled → List Fragment
+fragments_assembled topology part dynamic a =
+    if a.whole then fragments_faced topology part dynamic a (facing_of topology part.ccw a.corners) else []
 
 -- ---- draws
 

@@ -6,7 +6,7 @@ ghost use Rattle.draw_model.specs.Invocation.{fragment_inputs, writes};
 ghost use Rattle.draw_model.specs.LawfulDraw.{IsSide};
 ghost use Rattle.draw_model.specs.WholeDraw.{fragment_outcome};
 ghost use Rattle.int_device.specs.SampleRules.{AreRules, IsPlace, rules_of, samples_by, told};
-ghost use Rattle.int_device.specs.Draws.{Draws, Shade, IsShading, fragments_at, fragments_in_row, fragments_in_layer, fragments_if_masked, fragments_in_layers, fragment_by};
+ghost use Rattle.int_device.specs.Draws.{Draws, Shade, IsShading, fragments_at, fragments_in_row, fragments_in_layer, fragments_if_masked, fragments_in_layers, fragment_by, fragments_by, some_mask};
 
 use crate::canvas::Canvas;
 use crate::fragment::Fragment;
@@ -213,6 +213,18 @@ impl<'a> Shading<'a> {
         }
         work
     }
+
+    /// Draws the fragments of a primitive: those in the scissor, in the layers of the view mask.
+    pub fn rasterize(&mut self, p: &Primitive, view_mask: u8, canvas: &mut Canvas) -> u64
+        ensures draws { Draws self.old canvas.old canvas.new result (fragments_by p.now self.old.dynamic view_mask) }
+        ensures bound { result ≤ 2 ^ 45 }
+        ensures same { self.new ≡ self.old }
+    {
+        let scissor = self.dynamic.scissor;
+        let columns = (scissor[0], scissor[2]);
+        let rows = (scissor[1], scissor[3]);
+        self.layers(p, columns, rows, layers_of(view_mask), canvas)
+    }
 }
 
 fn fragment_by(p: &Primitive, layer: u8, y: u32, x: u32) -> Fragment
@@ -265,4 +277,11 @@ fn writes(kind: Kind) -> bool
         Kind::Done => true,
         Kind::Killed | Kind::Lost => false,
     }
+}
+
+// Without views it is layer 0.
+fn layers_of(view_mask: u8) -> u8
+    ensures { result ≡ some_mask view_mask }
+{
+    if view_mask == 0 { 1 } else { view_mask }
 }
