@@ -1,4 +1,5 @@
 mod CanvasLaws
+mod DrawLaws
 mod DrawRules
 mod Outputs
 mod PrimitiveLaws

@@ -67,7 +67,7 @@ choose : (t : Topology) (part : PrerastPart) (dynamic : Dynamic) (a : Assembled)
     fragments_by (record { topology = t; corners = a.corners; front = front; slots = a.slots }) dynamic part.view_mask ≡ fs → (guarded ≡ false → fs ≡ []) →
     cond own (fragments_faced t part dynamic a (cond guarded (Some front) None)) [] ≡ cond (whole && not (is_culled t part.cull front)) fs []
 choose t part dynamic a front false own guarded fs same h k = rw same refl
-choose t part dynamic a front true own true fs same h k = rw same ( uncull (is_culled t part.cull front) (fragments_by (record { topology = t; corners = a.corners; front = front; slots = a.slots }) dynamic part.view_mask) fs h)
+choose t part dynamic a front true own true fs same h k = rw same (uncull (is_culled t part.cull front) (fragments_by (record { topology = t; corners = a.corners; front = front; slots = a.slots }) dynamic part.view_mask) fs h)
 choose t part dynamic a front true own false fs same h k = rw same (both_none (not (is_culled t part.cull front)) fs (k refl))
 
 whole_one : (p : Bool) → p ≡ list_all (λ b. b) (p ∷ [])

@@ -1,5 +1,5 @@
 -- The vertices of a draw: what their invocations leave, and the primitives that they make.
-use Rattle.std.specs.Prelude.{◌≡◌, ℕ, ◌+◌, ◌*◌, ◌≤◌, Bool, ◌&&◌, if◌then◌else◌, List, [], ◌∷◌, map, length, replicate, sum, slice_index, Option, None, Some}
+use Rattle.std.specs.Prelude.{◌≡◌, ℕ, ◌+◌, ◌*◌, ◌≤◌, Bool, ◌&&◌, if◌then◌else◌, List, [], ◌∷◌, map, length, replicate, sum, slice_index, Option, None, Some, IfSome}
 use Rattle.std.specs.List.{fold, flat_map, range_with_len}
 use Rattle.limits.specs.declared.TheConstants.{MODULE_WORDS, COMPONENTS}
 use Rattle.spirv_model.specs.declared.module.Inst.{Inst}
@@ -76,6 +76,15 @@ fragments_assembled topology part dynamic a =
     if a.whole then fragments_faced topology part dynamic a (facing_of topology part.ccw a.corners) else []
 
 -- ---- draws
+
+-- the fragment stage is given the same
+abbrev pub HasDynamic : Option Shade → Dynamic → Type 0
+HasDynamic s dynamic = IfSome s (λ s. s.dynamic ≡ dynamic)
+
+-- the fragments of a primitive, where there is a fragment stage
+abbrev pub fragments_if : Option Shade → Topology → PrerastPart → Assembled → List Fragment
+fragments_if None topology part a = []
+fragments_if (Some s) topology part a = fragments_assembled topology part s.dynamic a
 
 -- the targets after fragments, and their work; nothing without a fragment stage
 abbrev pub targets_after : Option Shade → Targets → List Fragment → Targets

@@ -3,6 +3,7 @@
 
 mod assembled;
 mod canvas;
+mod drawing;
 mod fragment;
 mod prepared_stub;
 mod primitive;
