@@ -1,10 +1,12 @@
 mod CanvasLaws
 mod DrawLaws
 mod DrawRules
+mod FewInsts
 mod Outputs
 mod PrimitiveLaws
 mod Ranges
 mod SampleLaws
 mod SceneLaws
 mod Shades
+mod WholeLaws
 mod WordLists

@@ -1,5 +1,7 @@
 -- What a prepared module is for.
-use Rattle.std.specs.Prelude.{Option}
+use Rattle.std.specs.Prelude.{List, Option}
+use Rattle.std.specs.Option.{option_map}
+use Rattle.spirv_model.specs.declared.module.Inst.{Inst}
 use Rattle.spirv_model.specs.declared.module.Words.{Words}
 use Rattle.state_model.specs.declared.parts.SpecValues.{SpecValues}
 
@@ -16,3 +18,6 @@ IsNeverMade = ⊥
 pub record Modules : Type 0 where
   pub vertex : Words
   pub fragment : Option Words
+
+abbrev pub fragment_insts : Modules → Option (List Inst)
+fragment_insts modules = option_map (λ (words : Words). words.insts) modules.fragment

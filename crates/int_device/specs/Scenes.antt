@@ -1,5 +1,6 @@
 -- The vertices of a draw: what their invocations leave, and the primitives that they make.
 use Rattle.std.specs.Prelude.{◌≡◌, ℕ, ◌+◌, ◌*◌, ◌≤◌, Bool, ◌&&◌, if◌then◌else◌, List, [], ◌∷◌, map, length, replicate, sum, slice_index, Option, None, Some, IfSome}
+use Rattle.std.specs.Option.{option_map}
 use Rattle.std.specs.List.{fold, flat_map, range_with_len}
 use Rattle.limits.specs.declared.TheConstants.{MODULE_WORDS, COMPONENTS}
 use Rattle.spirv_model.specs.declared.module.Inst.{Inst}
@@ -16,7 +17,7 @@ use Rattle.draw_model.specs.declared.command.Dynamic.{Dynamic}
 use Rattle.draw_model.specs.declared.command.DrawCall.{DrawCall}
 use Rattle.draw_model.specs.declared.framebuffer.Targets.{Targets}
 use Rattle.draw_model.specs.Invocation.{Fragment, is_drawn, no_slots}
-use Rattle.draw_model.specs.WholeDraw.{vertex_outcome, vertices_of, is_culled, after_fragment, fragment_work, fragments_of}
+use Rattle.draw_model.specs.WholeDraw.{fragment_stage, vertex_outcome, vertices_of, is_culled, after_fragment, fragment_work, fragments_of}
 use Rattle.prerast_lib.specs.Guarded.{facing_of}
 use Rattle.int_device.specs.declared.assembled.Assembled.{Assembled}
 use Rattle.int_device.specs.PreparedFor.{PreparedFor}
@@ -80,6 +81,10 @@ fragments_assembled topology part dynamic a =
 -- the fragment stage is given the same
 abbrev pub HasDynamic : Option Shade → Dynamic → Type 0
 HasDynamic s dynamic = IfSome s (λ s. s.dynamic ≡ dynamic)
+
+-- the fragment stage of a draw
+abbrev pub shade_of : Option (List Inst) → State → Dynamic → Buffers → Option Shade
+shade_of fs state dynamic buffers = option_map (λ stage. record { stage = stage; dynamic = dynamic; buffers = buffers }) (fragment_stage fs state)
 
 -- the fragments of a primitive, where there is a fragment stage
 abbrev pub fragments_if : Option Shade → Topology → PrerastPart → Assembled → List Fragment

@@ -129,8 +129,8 @@ fn draw_instance(
     work
 }
 
-// So many primitives of so many instances.
-fn draw_instances(
+/// So many primitives of so many instances.
+pub fn draw_instances(
     vertices: &mut Vertices,
     shading: &mut Option<Shading>,
     state: &State,

@@ -13,6 +13,7 @@ mod shading;
 mod target_samples;
 mod unit;
 mod vertices;
+pub mod whole_draw;
 
 ghost use Rattle.std.specs.Prelude.{◌≡◌, ◌<◌, [], ◌∷◌, ◌++◌, IfOk, OnOk};
 ghost use Rattle.state_model.specs.declared.parts.Topology.TheVariants.{Points};

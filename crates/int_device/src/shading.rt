@@ -14,8 +14,9 @@ use crate::prepared_stub::Prepared;
 use crate::primitive::Primitive;
 use crate::sample_rules::{SampleRules, rules_of};
 use crate::samples::{is_in_mask, write_samples};
+use crate::unit::count_insts;
 use draw_model::Dynamic;
-use limits::{MAX_SIDE, MODULE_WORDS};
+use limits::MAX_SIDE;
 use prerast_lib::covers;
 use spv_check::Module;
 use stage_model::{Ended, Inputs, Kind};
@@ -58,7 +59,6 @@ impl<'a> Shading<'a> {
         dynamic: &'a Dynamic,
         buffers: &'a Buffers,
     ) -> Result<Shading<'a>, AllocError>
-        requires few { length shader.now.insts ≤ MODULE_WORDS }
         requires part { IsFragmentPart part.now }
         requires output { IsOutputPart output.now }
         requires scissor_x { IsSide (slice_index dynamic.now.scissor 0) (slice_index dynamic.now.scissor 2) }
@@ -69,6 +69,7 @@ impl<'a> Shading<'a> {
           buffers = buffers.now;
         }) }
     {
+        let _few = count_insts(shader);
         let run = Prepared::new(alloc, shader, &part.entries)?;
         Ok(Shading {
             run,

@@ -1,7 +1,8 @@
-ghost use Rattle.std.specs.Prelude.{◌≡◌, IfOk};
+ghost use Rattle.std.specs.Prelude.{◌≡◌, ◌≤◌, length, IfOk};
 ghost use Rattle.std.specs.Option.{option_copied};
 ghost use Rattle.int_device.specs.PreparedFor.{Modules};
 
+use limits::MODULE_WORDS;
 use spv_check::Module;
 use std::alloc::{AllocError, Global};
 use std::marker::Model;
@@ -58,4 +59,13 @@ fn copy_of(module: &Option<Module>, alloc: Global) -> Result<Option<Module>, All
         Some(module) => Ok(Some(module.copy(alloc)?)),
         None => Ok(None),
     }
+}
+
+/// How many instructions a module has: a valid one has few.
+#[tactic(auto, using(crate::proofs::FewInsts::few_insts))]
+pub fn count_insts(shader: &Module) -> usize
+    ensures count { result ≡ length shader.now.insts }
+    ensures few { length shader.now.insts ≤ MODULE_WORDS }
+{
+    shader.insts().len()
 }

@@ -7,8 +7,9 @@ ghost use Rattle.int_device.specs.Scenes.{Scene, IsScene, assembled_in, outcome_
 
 use crate::assembled::Assembled;
 use crate::prepared_stub::Prepared;
+use crate::unit::count_insts;
 use draw_model::{DrawCall, Dynamic};
-use limits::{COMPONENTS, LOCATIONS, MODULE_WORDS};
+use limits::{COMPONENTS, LOCATIONS};
 use spv_check::Module;
 use stage_model::{Ended, Inputs, Kind};
 use state_model::{Buffers, State, Topology};
@@ -53,8 +54,7 @@ impl<'a> Vertices<'a> {
         call: &'a DrawCall,
         buffers: &'a Buffers,
     ) -> Result<Vertices<'a>, AllocError>
-        requires few { length shader.now.insts ≤ MODULE_WORDS }
-        requires part { IsVertexPart state.now.vertex }
+        requires { IsVertexPart state.now.vertex }
         ensures { IfOk result (λ v. v ≡ record {
           vs = shader.now.insts;
           state = state.now;
@@ -63,6 +63,7 @@ impl<'a> Vertices<'a> {
           buffers = buffers.now;
         }) }
     {
+        let _few = count_insts(shader);
         let run = Prepared::new(alloc, shader, &state.prerast.entries)?;
         Ok(Vertices {
             run,

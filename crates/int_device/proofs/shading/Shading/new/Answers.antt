@@ -11,7 +11,7 @@ invariant_of-result c =
     subst (λ (for : PreparedFor). IsShading for c.args.part.now c.args.output.now c.args.dynamic.now c.rules_of.result) (sym c.in_ok-run.ensures)
     (record {
       entries = refl;
-      few = c.requires.few;
+      few = c.count_insts-few.ensures.few;
       ruled = c.rules_of.ensures;
       limited = subst AreRules (sym c.rules_of.ensures) (rules_limited c.args.shader.now.insts c.args.part.now c.args.output.now c.args.dynamic.now c.requires.part c.requires.output);
       scissor_x = c.requires.scissor_x;
