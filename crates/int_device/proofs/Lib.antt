@@ -1,3 +1,4 @@
+mod BoxFragments
 mod CanvasLaws
 mod DrawLaws
 mod DrawRules

@@ -17,7 +17,7 @@ use Rattle.int_device.specs.Scenes.{Scene, outcome_in, outcomes_in, point_of, tr
 
 -- ---- nothing
 
-none_filtered : (test : ℕ → Bool) (xs : List ℕ) → ((x : ℕ) → test x ≡ false) → filter test xs ≡ []
+pub none_filtered : (test : ℕ → Bool) (xs : List ℕ) → ((x : ℕ) → test x ≡ false) → filter test xs ≡ []
 none_filtered test [] h = refl
 none_filtered test (x ∷ xs) h = ap (λ (b : Bool). cond b (x ∷ filter test xs) (filter test xs)) (h x) ∙ none_filtered test xs h
 

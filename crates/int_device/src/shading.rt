@@ -17,7 +17,7 @@ use crate::samples::{is_in_mask, write_samples};
 use crate::unit::count_insts;
 use draw_model::Dynamic;
 use limits::MAX_SIDE;
-use prerast_lib::covers;
+use prerast_lib::{columns_of, covers, rows_of};
 use spv_check::Module;
 use stage_model::{Ended, Inputs, Kind};
 use state_model::{Buffers, FragmentPart, OutputPart, VIEWS};
@@ -222,8 +222,8 @@ impl<'a> Shading<'a> {
         ensures same { self.new ≡ self.old }
     {
         let scissor = self.dynamic.scissor;
-        let columns = (scissor[0], scissor[2]);
-        let rows = (scissor[1], scissor[3]);
+        let columns = columns_of(&p.corners, scissor[0], scissor[2]);
+        let rows = rows_of(&p.corners, scissor[1], scissor[3]);
         self.layers(p, columns, rows, layers_of(view_mask), canvas)
     }
 }
