@@ -1,9 +1,8 @@
 -- The columns and rows that hold what a primitive covers have all its fragments.
-use Rattle.std.proofs.Common.{◌≡◌, ℕ, zero, suc, ◌+◌, ◌-◌, ◌<◌, ◌≤◌, ◌⊎◌, inl, inr, Bool, true, false, cond, List, [], ◌∷◌, ◌++◌, map, refl, ap, sym, ◌∙◌, subst, arith, append-nil}
+use Rattle.std.proofs.Common.{◌≡◌, ℕ, zero, suc, ◌+◌, ◌-◌, ◌<◌, ◌≤◌, inl, inr, Bool, true, false, cond, List, [], ◌∷◌, ◌++◌, map, refl, ap, sym, ◌∙◌, subst, arith, append-nil}
 use Rattle.std.proofs.Math.Path.{fun_ext}
 use Rattle.std.specs.Prelude.{filter, slice_index}
 use Rattle.std.specs.List.{flat_map, range_with_len}
-use Rattle.std.proofs.lemmas.List.Elements.{filter-append}
 use Rattle.std.proofs.lemmas.Grind.{flat_map-append}
 use Rattle.draw_model.specs.Coverage.{is_covered}
 use Rattle.draw_model.specs.declared.framebuffer.Targets.{Targets}
@@ -21,6 +20,7 @@ range_append a zero n = ap (range_with_len a) (zero_sum n) ∙ ap (λ (b : ℕ).
   where
     zero_sum : (n : ℕ) → 0 + n ≡ n
     zero_sum n = omega arith
+
     sum_zero : (a : ℕ) → a ≡ a + 0
     sum_zero a = omega arith
 range_append a (suc m) n =
@@ -29,6 +29,7 @@ range_append a (suc m) n =
   where
     suc_sum : (m n : ℕ) → suc m + n ≡ suc (m + n)
     suc_sum m n = omega arith
+
     moved : (a m : ℕ) → a + 1 + m ≡ a + suc m
     moved a m = omega arith
 

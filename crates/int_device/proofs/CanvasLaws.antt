@@ -1,7 +1,7 @@
 -- One target of several is changed.
-use Rattle.std.proofs.Common.{◌≡◌, ◌≢◌, ℕ, zero, suc, ◌<◌, ◌≤◌, Bool, true, false, cond, List, [], ◌∷◌, length, refl, ap, sym, ◌∙◌, subst, arith}
-use Rattle.std.specs.Prelude.{Option, None, Some, slice_get, slice_set, slice_index, slice_index_or, ◌&&◌}
-use Rattle.std.specs.Option.{option_map_or, option_and_then}
+use Rattle.std.proofs.Common.{◌≡◌, ℕ, zero, suc, ◌≤◌, Bool, true, false, cond, List, [], ◌∷◌, length, refl, ap, sym, ◌∙◌, subst}
+use Rattle.std.specs.Prelude.{Option, None, Some, slice_get, slice_set, slice_index_or, ◌&&◌}
+use Rattle.std.specs.Option.{option_map_or}
 use Rattle.std.proofs.lemmas.Option.{slice_get_past}
 use Rattle.state_model.specs.declared.parts.Attachment.{Attachment}
 use Rattle.state_model.specs.declared.parts.Depth.{Depth}
@@ -13,8 +13,7 @@ use Rattle.draw_model.specs.Pixel.{stored_pixel}
 use Rattle.draw_model.specs.Invocation.{Fragment}
 use Rattle.draw_model.specs.TargetWords.{sample_words, with_sample, suits}
 use Rattle.int_device.specs.declared.sample_rules.BoundDepth.{BoundDepth}
-use Rattle.int_device.specs.declared.sample_rules.BoundAttachment.{BoundAttachment}
-use Rattle.int_device.specs.SampleRules.{IsLimited, AreLimited, passes_in, with_depth_in, with_write_in, changed_at, passes_by, with_depth_by, with_write_by}
+use Rattle.int_device.specs.SampleRules.{IsLimited, AreLimited, passes_in, with_depth_in, with_write_in, changed_at, passes_by, with_depth_by}
 
 -- ---- sides stay
 

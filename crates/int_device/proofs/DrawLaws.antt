@@ -1,7 +1,7 @@
 -- Primitives that are drawn one after another.
-use Rattle.std.proofs.Common.{◌≡◌, ℕ, ◌+◌, ◌*◌, ◌^◌, ◌<◌, ◌≤◌, List, [], ◌∷◌, ◌++◌, map, refl, ap, sym, ◌∙◌, subst, arith, append-nil}
-use Rattle.std.specs.Prelude.{Option, None, Some, sum, IfSome}
-use Rattle.std.specs.List.{fold, flat_map, range_with_len}
+use Rattle.std.proofs.Common.{◌≡◌, ℕ, ◌+◌, List, [], ◌∷◌, ◌++◌, map, refl, ap, sym, ◌∙◌, subst, arith, append-nil}
+use Rattle.std.specs.Prelude.{Option, None, Some, sum}
+use Rattle.std.specs.List.{flat_map, range_with_len}
 use Rattle.std.proofs.lemmas.List.{map-append}
 use Rattle.std.proofs.lemmas.List.Sums.{fold-append, sum_by-append}
 use Rattle.std.proofs.lemmas.Grind.{flat_map-append}
@@ -10,9 +10,9 @@ use Rattle.state_model.specs.declared.parts.State.{State}
 use Rattle.draw_model.specs.declared.command.Dynamic.{Dynamic}
 use Rattle.draw_model.specs.declared.framebuffer.Targets.{Targets}
 use Rattle.draw_model.specs.Invocation.{Fragment}
-use Rattle.draw_model.specs.WholeDraw.{fragment_outcome, after_fragment, fragment_work, fragments_of}
+use Rattle.draw_model.specs.WholeDraw.{fragment_outcome, after_fragment, fragments_of}
 use Rattle.int_device.specs.declared.assembled.Assembled.{Assembled}
-use Rattle.int_device.specs.Draws.{Shade, Draws}
+use Rattle.int_device.specs.Draws.{Shade}
 use Rattle.int_device.specs.Scenes.{Scene, DrawsIf, DrawsAll, HasDynamic, targets_after, work_after, fragments_if, fragments_assembled, assembled_in, outcomes_in, primitives_in, primitives_until}
 use Rattle.int_device.proofs.PrimitiveLaws.{fragments_law, work_law}
 use Rattle.int_device.proofs.Ranges.{range_more}

@@ -1,6 +1,6 @@
 -- What the rules of a draw make of samples is what the definitions make of them.
-use Rattle.std.proofs.Common.{◌≡◌, ℕ, zero, suc, ◌≤◌, Bool, true, false, cond, List, [], ◌∷◌, refl, ap, sym, ◌∙◌, subst}
-use Rattle.std.specs.Prelude.{Option, None, Some, slice_get, slice_set, slice_index, slice_index_or, filter, ◌&&◌, ◌==◌, if◌then◌else◌}
+use Rattle.std.proofs.Common.{◌≡◌, ℕ, Bool, true, false, cond, List, [], ◌∷◌, refl, ap, sym, ◌∙◌}
+use Rattle.std.specs.Prelude.{Option, None, Some, slice_get, slice_set, slice_index_or, ◌&&◌, if◌then◌else◌}
 use Rattle.std.specs.Option.{option_map, option_map_or, option_and_then}
 use Rattle.std.specs.List.{fold, range_with_len}
 use Rattle.limits.specs.declared.TheConstants.{ATTACHMENTS}
@@ -11,13 +11,11 @@ use Rattle.draw_model.specs.declared.command.Dynamic.{Dynamic}
 use Rattle.draw_model.specs.declared.framebuffer.TheConstants.{DEPTH_FORMAT}
 use Rattle.draw_model.specs.declared.framebuffer.Target.{Target}
 use Rattle.draw_model.specs.declared.framebuffer.Targets.{Targets}
-use Rattle.draw_model.specs.Pixel.{passes_depth, stored_pixel, has_bit}
+use Rattle.draw_model.specs.Pixel.{stored_pixel}
 use Rattle.draw_model.specs.Invocation.{Fragment}
 use Rattle.draw_model.specs.TargetWords.{sample_words, with_sample, with_target, suits, if_suits, usable}
-use Rattle.draw_model.specs.SampleWrites.{FragmentStage, DepthTest, Write, has_output, depth_test, goes_on, with_depth, write_at, with_write, after_location, after_writes, after_sample, samples_of}
-use Rattle.int_device.specs.declared.sample_rules.BoundDepth.{BoundDepth}
-use Rattle.int_device.specs.declared.sample_rules.BoundAttachment.{BoundAttachment}
-use Rattle.int_device.specs.SampleRules.{bound_depth, bound_attachment, attachment_at, rules_of, passes_in, with_depth_in, with_write_in, changed_at, passes_by, with_depth_by, with_write_by, location_by, locations_by, sample_by, samples_by}
+use Rattle.draw_model.specs.SampleWrites.{FragmentStage, DepthTest, has_output, depth_test, goes_on, with_depth, write_at, with_write, after_location, after_writes, after_sample, samples_of}
+use Rattle.int_device.specs.SampleRules.{bound_depth, bound_attachment, attachment_at, rules_of, passes_in, with_depth_in, with_write_in, passes_by, with_depth_by, with_write_by, location_by, locations_by, sample_by, samples_by}
 use Rattle.int_device.proofs.CanvasLaws.{set_same}
 
 -- ---- depth

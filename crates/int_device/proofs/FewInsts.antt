@@ -1,10 +1,10 @@
 -- A valid module has few instructions.
-use Rattle.std.proofs.Common.{◌≡◌, ℕ, ◌+◌, ◌≤◌, List, [], ◌∷◌, ◌++◌, length, arith, length-append}
+use Rattle.std.proofs.Common.{◌≤◌, List, [], ◌∷◌, length, arith, length-append}
 use Rattle.std.specs.List.{flat_map}
 use Rattle.limits.specs.declared.TheConstants.{MODULE_WORDS}
 use Rattle.spirv_model.specs.declared.module.Inst.{Inst}
 use Rattle.spirv_model.specs.declared.module.Words.{Words}
-use Rattle.spirv_model.specs.Module.{words_of, module_words}
+use Rattle.spirv_model.specs.Module.{words_of}
 use Rattle.check_model.specs.Validity.{IsValidList}
 
 no_longer : (insts : List Inst) → length insts ≤ length (flat_map words_of insts)

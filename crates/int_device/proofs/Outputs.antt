@@ -1,7 +1,7 @@
 -- A module has an output at a location where its ids tell of one.
 use Rattle.std.proofs.Common.{◌≡◌, ℕ, Bool, true, false, cond, List, [], ◌∷◌, refl, ap, sym, ◌∙◌}
 use Rattle.std.proofs.Math.Path.{fun_ext}
-use Rattle.std.specs.Prelude.{Option, None, Some, slice_index, is_some, ◌==◌, ◌&&◌, ◌||◌}
+use Rattle.std.specs.Prelude.{Option, Some, slice_index, is_some, ◌==◌, ◌&&◌, ◌||◌}
 use Rattle.std.specs.Option.{option_map}
 use Rattle.std.specs.List.{find, list_any}
 use Rattle.spirv_model.specs.declared.module.Inst.{Inst}
@@ -11,9 +11,9 @@ use Rattle.spirv_model.specs.declared.storage_class.TheConstants as class
 use Rattle.spirv_model.specs.declared.decoration.TheConstants.{LOCATION}
 use Rattle.spirv_model.specs.Operands.{word_at}
 use Rattle.spv_types.specs.declared.ids.Ids.{Ids}
-use Rattle.spv_types.specs.Answers.{AreIdsOf, decoration_at}
+use Rattle.spv_types.specs.Answers.{AreIdsOf}
 use Rattle.stage_model.specs.Program.{program_of}
-use Rattle.stage_model.specs.Stage.{is_number, is_output_with, output_with}
+use Rattle.stage_model.specs.Stage.{is_number, is_output_with}
 use Rattle.draw_model.specs.SampleWrites.{has_output}
 use Rattle.int_device.specs.SampleRules.{is_output_told}
 

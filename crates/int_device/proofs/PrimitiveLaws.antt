@@ -1,11 +1,10 @@
 -- The fragments of a primitive are those of its vertices' outcomes.
-use Rattle.std.proofs.Common.{◌≡◌, ℕ, zero, suc, ◌+◌, ◌*◌, Bool, true, false, cond, List, [], ◌∷◌, ◌++◌, refl, ap, sym, ◌∙◌, subst, arith}
-use Rattle.std.specs.Prelude.{Option, None, Some, not, ◌&&◌, map, filter, sum, slice_index, slice_index_or}
+use Rattle.std.proofs.Common.{◌≡◌, ℕ, ◌+◌, ◌*◌, Bool, true, false, cond, List, [], ◌∷◌, ◌++◌, refl, ap, sym, ◌∙◌, arith}
+use Rattle.std.specs.Prelude.{None, Some, not, ◌&&◌, map, filter, sum, slice_index}
 use Rattle.std.specs.List.{flat_map, list_all, range_with_len}
 use Rattle.state_model.specs.declared.parts.Topology.{Topology}
 use Rattle.state_model.specs.declared.parts.Topology.TheVariants.{Points, Triangles}
 use Rattle.state_model.specs.declared.parts.PrerastPart.{PrerastPart}
-use Rattle.state_model.specs.declared.parts.State.{State}
 use Rattle.stage_model.specs.Stage.{Outcome, ended_of}
 use Rattle.draw_model.specs.declared.command.Dynamic.{Dynamic}
 use Rattle.draw_model.specs.Coverage.{corner, is_guarded, is_covered}

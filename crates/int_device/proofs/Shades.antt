@@ -1,6 +1,6 @@
 -- Invocations of a fragment shader, and what they leave.
-use Rattle.std.proofs.Common.{◌≡◌, ℕ, ◌+◌, ◌*◌, ◌^◌, ◌<◌, ◌≤◌, ◌⊎◌, inl, inr, Bool, true, false, cond, List, [], ◌∷◌, ◌++◌, length, refl, ap, sym, ◌∙◌, subst, arith, append-nil, zero-add}
-use Rattle.std.specs.Prelude.{Option, None, Some, ◌==◌, sum, map, unwrap_or, slice_index, IfSome, IfOk}
+use Rattle.std.proofs.Common.{◌≡◌, ℕ, ◌+◌, ◌*◌, ◌^◌, ◌≤◌, ◌⊎◌, Bool, true, false, cond, List, [], ◌∷◌, ◌++◌, length, refl, ap, sym, ◌∙◌, subst, arith, append-nil, zero-add}
+use Rattle.std.specs.Prelude.{Option, None, Some, ◌==◌, sum, map, unwrap_or, slice_index, IfSome}
 use Rattle.std.specs.Option.{option_map}
 use Rattle.std.specs.List.{fold, filter, flat_map, range_with_len}
 use Rattle.std.proofs.Math.Nat.{mul-le-mul_left}
@@ -10,7 +10,7 @@ use Rattle.std.proofs.lemmas.List.Sums.{fold-append, sum_by-append}
 use Rattle.limits.specs.declared.TheConstants.{MODULE_WORDS, BACK_EDGES}
 use Rattle.spirv_model.specs.declared.module.Inst.{Inst}
 use Rattle.state_model.specs.declared.TheConstants.{VIEWS}
-use Rattle.state_model.specs.declared.vulkan.TheConstants.{COMPARE_OP_ALWAYS, LOGIC_OP_SET, SAMPLE_COUNT_4}
+use Rattle.state_model.specs.declared.vulkan.TheConstants.{COMPARE_OP_ALWAYS}
 use Rattle.state_model.specs.declared.buffers.Buffers.{Buffers}
 use Rattle.state_model.specs.declared.parts.Depth.{Depth}
 use Rattle.state_model.specs.declared.parts.SpecValues.{SpecValues}
@@ -18,7 +18,6 @@ use Rattle.state_model.specs.declared.parts.FragmentPart.{FragmentPart}
 use Rattle.state_model.specs.declared.parts.OutputPart.{OutputPart}
 use Rattle.state_model.specs.Lawful.{IsDepth, IsFragmentPart, IsOutputPart}
 use Rattle.stage_model.specs.declared.inputs.Inputs.{Inputs}
-use Rattle.stage_model.specs.declared.outcome.Kind.{Kind}
 use Rattle.stage_model.specs.declared.outcome.Ended.{Ended}
 use Rattle.stage_model.specs.Stage.{Outcome, stage, ended_of, enough_steps}
 use Rattle.stage_model.proofs.WorkCounts.{stage_work}
@@ -27,9 +26,8 @@ use Rattle.draw_model.specs.declared.framebuffer.Targets.{Targets}
 use Rattle.draw_model.specs.Coverage.{is_covered}
 use Rattle.draw_model.specs.Pixel.{has_bit}
 use Rattle.draw_model.specs.Invocation.{Fragment, invoked, no_outcome, writes, fragment_inputs}
-use Rattle.draw_model.specs.SampleWrites.{FragmentStage, after_sample, samples_of}
+use Rattle.draw_model.specs.SampleWrites.{after_sample, samples_of}
 use Rattle.draw_model.specs.WholeDraw.{layers_of, fragment_outcome, after_outcome, after_fragment, fragment_work}
-use Rattle.int_device.specs.declared.sample_rules.BoundDepth.{BoundDepth}
 use Rattle.int_device.specs.PreparedFor.{PreparedFor}
 use Rattle.int_device.specs.SampleRules.{AreRules, bound_depth, rules_of, samples_by}
 use Rattle.int_device.specs.declared.primitive.Primitive.{Primitive}

@@ -1,5 +1,5 @@
 -- What is drawn by a fragment shader: the fragments of a primitive, and what they make of the targets.
-use Rattle.std.specs.Prelude.{◌≡◌, ◌==◌, ℕ, ◌+◌, ◌≤◌, Bool, if◌then◌else◌, List, [], ◌∷◌, map, filter, length, slice_index, slice_index_or}
+use Rattle.std.specs.Prelude.{◌≡◌, ◌==◌, ℕ, ◌≤◌, if◌then◌else◌, List, [], ◌∷◌, map, filter, length, slice_index, slice_index_or}
 use Rattle.std.specs.List.{fold, flat_map, range_with_len}
 use Rattle.limits.specs.declared.TheConstants.{MODULE_WORDS}
 use Rattle.state_model.specs.declared.buffers.Buffers.{Buffers}

@@ -1,8 +1,8 @@
 -- The vertices of a draw: what their invocations leave, and the primitives that they make.
-use Rattle.std.specs.Prelude.{◌≡◌, ℕ, ◌+◌, ◌*◌, ◌≤◌, Bool, ◌&&◌, if◌then◌else◌, List, [], ◌∷◌, map, length, replicate, sum, slice_index, Option, None, Some, IfSome}
+use Rattle.std.specs.Prelude.{◌≡◌, ℕ, ◌+◌, ◌*◌, ◌≤◌, Bool, ◌&&◌, if◌then◌else◌, List, [], ◌∷◌, map, length, sum, Option, None, Some, IfSome}
 use Rattle.std.specs.Option.{option_map}
 use Rattle.std.specs.List.{fold, flat_map, range_with_len}
-use Rattle.limits.specs.declared.TheConstants.{MODULE_WORDS, COMPONENTS}
+use Rattle.limits.specs.declared.TheConstants.{MODULE_WORDS}
 use Rattle.spirv_model.specs.declared.module.Inst.{Inst}
 use Rattle.state_model.specs.declared.buffers.Buffers.{Buffers}
 use Rattle.state_model.specs.declared.parts.Topology.{Topology}
@@ -16,7 +16,7 @@ use Rattle.stage_model.specs.Stage.{Outcome, ended_of}
 use Rattle.draw_model.specs.declared.command.Dynamic.{Dynamic}
 use Rattle.draw_model.specs.declared.command.DrawCall.{DrawCall}
 use Rattle.draw_model.specs.declared.framebuffer.Targets.{Targets}
-use Rattle.draw_model.specs.Invocation.{Fragment, is_drawn, no_slots}
+use Rattle.draw_model.specs.Invocation.{Fragment, is_drawn}
 use Rattle.draw_model.specs.WholeDraw.{fragment_stage, vertex_outcome, vertices_of, is_culled, after_fragment, fragment_work, fragments_of}
 use Rattle.prerast_lib.specs.Guarded.{facing_of}
 use Rattle.int_device.specs.declared.assembled.Assembled.{Assembled}

@@ -1,7 +1,6 @@
-use Rattle.std.proofs.Common.{◌≡◌, false, sym, ap, ◌∙◌}
+use Rattle.std.proofs.Common.{◌≡◌, false, sym, ◌∙◌}
 use Rattle.int_device.specs.SampleRules.{told, sample_by, passes_by}
 use Rattle.int_device.proofs.CanvasLaws.{failed_leaves}
-use Rattle.int_device.proofs.DrawRules.{samples_law}
 use Rattle.int_device.proofs.samples.write_sample.Goals as goal
 
 pub returns-else-test_depth : goal.returns-else-test_depth

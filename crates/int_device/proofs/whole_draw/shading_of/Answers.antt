@@ -1,4 +1,4 @@
-use Rattle.std.proofs.Common.{◌≡◌, sym, ap, ◌∙◌}
+use Rattle.std.proofs.Common.{sym, ap, ◌∙◌}
 use Rattle.std.specs.Prelude.{Some}
 use Rattle.int_device.proofs.WholeLaws.{no_shader, no_part, no_output, shaded}
 use Rattle.int_device.proofs.whole_draw.shading_of.Goals as goal

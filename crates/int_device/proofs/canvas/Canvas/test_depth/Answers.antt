@@ -1,10 +1,9 @@
-use Rattle.std.proofs.Common.{◌≡◌, ◌≤◌, ◌<◌, ℕ, true, length, List, refl, sym, ap, ◌∙◌, subst, arith}
-use Rattle.std.specs.Prelude.{Option, Some, None, slice_get, slice_set}
+use Rattle.std.proofs.Common.{◌≡◌, ◌≤◌, ◌<◌, ℕ, length, List, refl, ap, ◌∙◌, subst, arith}
+use Rattle.std.specs.Prelude.{Some, slice_get, slice_set}
 use Rattle.std.proofs.lemmas.Option.{slice_get_read}
 use Rattle.draw_model.specs.declared.framebuffer.Target.{Target}
 use Rattle.draw_model.specs.declared.framebuffer.Targets.{Targets}
-use Rattle.int_device.specs.declared.sample_rules.BoundDepth.{BoundDepth}
-use Rattle.int_device.specs.SampleRules.{told, passes_by, with_depth_by, with_depth_in, passes_in, IsLimited}
+use Rattle.int_device.specs.SampleRules.{told, passes_by, with_depth_by, with_depth_in}
 use Rattle.int_device.proofs.CanvasLaws.{past_changed, past_passes, changed_there, passes_there, depth_limited, still_limited}
 use Rattle.int_device.proofs.canvas.Canvas.test_depth.Goals as goal
 

@@ -1,6 +1,5 @@
 use Rattle.std.proofs.Common.{refl, sym, subst}
 use Rattle.int_device.specs.PreparedFor.{PreparedFor}
-use Rattle.int_device.specs.declared.sample_rules.SampleRules.{SampleRules}
 use Rattle.int_device.specs.SampleRules.{AreRules}
 use Rattle.int_device.specs.Draws.{IsShading}
 use Rattle.int_device.proofs.Shades.{rules_limited}

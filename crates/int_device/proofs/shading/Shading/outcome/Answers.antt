@@ -1,10 +1,9 @@
-use Rattle.std.proofs.Common.{◌≡◌, ◌≤◌, ◌^◌, ap, sym, ◌∙◌, subst, ℕ}
+use Rattle.std.proofs.Common.{◌≡◌, ◌≤◌, ◌^◌, ap, sym, subst, ℕ}
 use Rattle.std.specs.Prelude.{Some}
 use Rattle.std.specs.Option.{option_map}
 use Rattle.stage_model.specs.declared.inputs.Inputs.{Inputs}
 use Rattle.stage_model.specs.declared.outcome.Ended.{Ended}
 use Rattle.stage_model.specs.Stage.{stage, ended_of}
-use Rattle.draw_model.specs.WholeDraw.{fragment_outcome}
 use Rattle.int_device.specs.SampleRules.{told}
 use Rattle.int_device.specs.Draws.{Shade}
 use Rattle.int_device.proofs.Shades.{fragment_told, fragment_few}

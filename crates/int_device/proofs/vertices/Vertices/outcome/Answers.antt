@@ -1,4 +1,4 @@
-use Rattle.std.proofs.Common.{◌≡◌, ◌≤◌, ◌^◌, ap, sym, ◌∙◌, subst, ℕ}
+use Rattle.std.proofs.Common.{◌≤◌, ◌^◌, ap, sym, subst, ℕ}
 use Rattle.stage_model.specs.declared.outcome.Ended.{Ended}
 use Rattle.int_device.specs.Scenes.{Scene}
 use Rattle.int_device.proofs.SceneLaws.{vertex_told, vertex_few}
