@@ -16,7 +16,7 @@ use Rattle.draw_model.specs.declared.framebuffer.Targets.{Targets}
 use Rattle.draw_model.specs.Invocation.{Fragment}
 use Rattle.draw_model.specs.SampleWrites.{FragmentStage}
 use Rattle.draw_model.specs.WholeDraw.{primitive_count, primitives, fragments, fragment_stage, after_fragment, fragment_work, vertex_work, image, effort}
-use Rattle.int_device.specs.PreparedFor.{Modules, fragment_insts}
+use Rattle.int_device.specs.Modules.{Modules, fragment_insts}
 use Rattle.int_device.specs.Draws.{Shade}
 use Rattle.int_device.specs.Scenes.{Scene, DrawsAll, HasDynamic, shade_of, targets_after, work_after, primitives_until}
 use Rattle.int_device.proofs.DrawLaws.{all_none, no_primitives}

@@ -14,14 +14,14 @@ use std::marker::Model;
 /// A module that is ready to run with specialization entries.
 #[derive(Drop)]
 pub struct Prepared<'m> {
-    module: &'m Module,
+    shader: &'m Module,
     values: SpecValues,
 }
 
 impl<'m> Model for Prepared<'m> {
     ghost Value = { PreparedFor };
 
-    ghost view = { λ p. record { words = p.module.now; entries = p.values } };
+    ghost view = { λ p. record { words = p.shader.now; entries = p.values } };
 
     ghost invariant = { λ p. IsNeverMade };
 }
@@ -30,17 +30,21 @@ impl<'m> Prepared<'m> {
     /// The module, ready to run with these entries. Only want of memory is an error.
     pub fn new(
         _alloc: Global,
-        module: &'m Module,
+        shader: &'m Module,
         values: &SpecValues,
     ) -> Result<Prepared<'m>, AllocError>
-        ensures { IfOk result (λ p. p ≡ record { words = module.now; entries = values.now }) }
+        ensures { IfOk result (λ p. p ≡ record { words = shader.now; entries = values.now }) }
     {
         Err(AllocError)
     }
 
     /// What an invocation with these inputs and buffers leaves.
     pub fn run(&mut self, inputs: &Inputs, buffers: &Buffers) -> Ended
-        ensures outcome { option_map ended_of (stage self.old.words.insts (record { entries = self.old.entries; inputs = inputs.now; buffers = buffers.now })) ≡ Some result }
+        ensures outcome { option_map ended_of (stage self.old.words.insts (record {
+          entries = self.old.entries;
+          inputs = inputs.now;
+          buffers = buffers.now;
+        })) ≡ Some result }
         ensures same { self.new ≡ self.old }
     {
         let _values = self.values;

@@ -101,7 +101,8 @@ fn attachment_at(
     location: usize,
 ) -> Option<BoundAttachment>
     requires { location < ATTACHMENTS }
-    ensures { bound_attachment (has_output shader.now.insts location) (present_at output.now.attachments location) (present_at dynamic.now.colour location) ≡ result }
+    ensures { bound_attachment (has_output shader.now.insts location)
+        (present_at output.now.attachments location) (present_at dynamic.now.colour location) ≡ result }
 {
     bound_attachment(
         has_output(shader, location),
@@ -118,7 +119,8 @@ pub fn rules_of(
     output: &OutputPart,
     dynamic: &Dynamic,
 ) -> SampleRules
-    ensures { result ≡ rules_of (record { insts = shader.now.insts; part = part.now; output = output.now }) dynamic.now }
+    ensures { result ≡ rules_of
+        (record { insts = shader.now.insts; part = part.now; output = output.now }) dynamic.now }
 {
     SampleRules {
         samples: output.multisample.samples,

@@ -61,8 +61,10 @@ impl<'a> Shading<'a> {
     ) -> Result<Shading<'a>, AllocError>
         requires part { IsFragmentPart part.now }
         requires output { IsOutputPart output.now }
-        requires scissor_x { IsSide (slice_index dynamic.now.scissor 0) (slice_index dynamic.now.scissor 2) }
-        requires scissor_y { IsSide (slice_index dynamic.now.scissor 1) (slice_index dynamic.now.scissor 3) }
+        requires scissor_x { let sides = dynamic.now.scissor in
+            IsSide (slice_index sides 0) (slice_index sides 2) }
+        requires scissor_y { let sides = dynamic.now.scissor in
+            IsSide (slice_index sides 1) (slice_index sides 3) }
         ensures { IfOk result (λ s. s ≡ record {
           stage = record { insts = shader.now.insts; part = part.now; output = output.now };
           dynamic = dynamic.now;
@@ -131,7 +133,8 @@ impl<'a> Shading<'a> {
     ) -> u64
         requires columns { left + width ≤ MAX_SIDE }
         requires y { y < MAX_SIDE }
-        ensures draws { Draws self.old canvas.old canvas.new result (fragments_in_row p.now left width layer y) }
+        ensures draws { Draws self.old canvas.old canvas.new result
+            (fragments_in_row p.now left width layer y) }
         ensures bound { result ≤ 2 ^ 35 }
         ensures same { self.new ≡ self.old }
     {
@@ -217,7 +220,8 @@ impl<'a> Shading<'a> {
 
     /// Draws the fragments of a primitive: those in the scissor, in the layers of the view mask.
     pub fn rasterize(&mut self, p: &Primitive, view_mask: u8, canvas: &mut Canvas) -> u64
-        ensures draws { Draws self.old canvas.old canvas.new result (fragments_by p.now self.old.dynamic view_mask) }
+        ensures draws { Draws self.old canvas.old canvas.new result
+            (fragments_by p.now self.old.dynamic view_mask) }
         ensures bound { result ≤ 2 ^ 45 }
         ensures same { self.new ≡ self.old }
     {

@@ -169,7 +169,8 @@ pub fn write_output(
     requires limited { IsLimited target.old }
     requires within { IsPlace f.now }
     requires logic { ForSome logic (λ op. op ≤ LOGIC_OP_SET) }
-    ensures { target.new ≡ with_write_in attachment logic samples (told f.now) words sample target.old }
+    ensures { target.new
+        ≡ with_write_in attachment logic samples (told f.now) words sample target.old }
 {
     if suits(target, attachment.format, samples, f) {
         let old = read_sample(target, f, sample);

@@ -1,6 +1,6 @@
 ghost use Rattle.std.specs.Prelude.{◌≡◌, ◌≤◌, length, IfOk};
 ghost use Rattle.std.specs.Option.{option_copied};
-ghost use Rattle.int_device.specs.PreparedFor.{Modules};
+ghost use Rattle.int_device.specs.Modules.{Modules};
 
 use limits::MODULE_WORDS;
 use spv_check::Module;
@@ -52,11 +52,11 @@ impl Unit {
     }
 }
 
-fn copy_of(module: &Option<Module>, alloc: Global) -> Result<Option<Module>, AllocError>
-    ensures { IfOk result (λ copy. copy ≡ module.now) }
+fn copy_of(shader: &Option<Module>, alloc: Global) -> Result<Option<Module>, AllocError>
+    ensures { IfOk result (λ copy. copy ≡ shader.now) }
 {
-    match module {
-        Some(module) => Ok(Some(module.copy(alloc)?)),
+    match shader {
+        Some(shader) => Ok(Some(shader.copy(alloc)?)),
         None => Ok(None),
     }
 }

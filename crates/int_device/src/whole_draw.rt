@@ -3,7 +3,7 @@ ghost use Rattle.std.specs.Prelude.{◌≡◌, ◌<◌, ◌≤◌, length, slice
 ghost use Rattle.state_model.specs.Lawful.{IsFragmentPart, IsOutputPart};
 ghost use Rattle.draw_model.specs.LawfulDraw.{LawfulDraw, IsCall, IsSide};
 ghost use Rattle.draw_model.specs.WholeDraw.{effort, image, primitive_count, primitives};
-ghost use Rattle.int_device.specs.PreparedFor.{fragment_insts};
+ghost use Rattle.int_device.specs.Modules.{fragment_insts};
 ghost use Rattle.int_device.specs.Scenes.{DrawsAll, HasDynamic, shade_of};
 
 use crate::canvas::Canvas;
@@ -54,9 +54,12 @@ fn shading_of<'a>(
 ) -> Result<Option<Shading<'a>>, AllocError>
     requires part { IfSome state.now.fragment IsFragmentPart }
     requires output { IfSome state.now.output IsOutputPart }
-    requires scissor_x { IsSide (slice_index dynamic.now.scissor 0) (slice_index dynamic.now.scissor 2) }
-    requires scissor_y { IsSide (slice_index dynamic.now.scissor 1) (slice_index dynamic.now.scissor 3) }
-    ensures { IfOk result (λ s. s ≡ shade_of (fragment_insts unit.now) state.now dynamic.now buffers.now) }
+    requires scissor_x { let sides = dynamic.now.scissor in
+        IsSide (slice_index sides 0) (slice_index sides 2) }
+    requires scissor_y { let sides = dynamic.now.scissor in
+        IsSide (slice_index sides 1) (slice_index sides 3) }
+    ensures { IfOk result
+        (λ s. s ≡ shade_of (fragment_insts unit.now) state.now dynamic.now buffers.now) }
 {
     let Some(shader) = unit.fragment() else {
         return Ok(None);
