@@ -1,1 +1,13 @@
+mod BoxFragments
+mod CanvasLaws
+mod DrawLaws
+mod DrawRules
+mod FewInsts
+mod Outputs
+mod PrimitiveLaws
 mod Ranges
+mod SampleLaws
+mod SceneLaws
+mod Shades
+mod WholeLaws
+mod WordLists

@@ -1,0 +1,5 @@
+pub mod Draws
+pub mod Modules
+pub mod PreparedFor
+pub mod SampleRules
+pub mod Scenes
