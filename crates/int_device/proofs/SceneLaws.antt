@@ -14,7 +14,7 @@ use Rattle.draw_model.specs.declared.command.Dynamic.{Dynamic}
 use Rattle.draw_model.specs.declared.command.DrawCall.{DrawCall}
 use Rattle.draw_model.specs.Invocation.{invoked, vertex_inputs, vertex_index, instance_index}
 use Rattle.draw_model.specs.WholeDraw.{vertex_outcome}
-use Rattle.int_device.specs.PreparedFor.{PreparedFor}
+use Rattle.spv_exec.specs.PreparedFor.{PreparedFor}
 use Rattle.int_device.specs.Scenes.{Scene, IsScene, outcome_in}
 use Rattle.int_device.proofs.Shades.{invoked_is, invoked_few}
 

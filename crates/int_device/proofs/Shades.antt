@@ -28,7 +28,7 @@ use Rattle.draw_model.specs.Pixel.{has_bit}
 use Rattle.draw_model.specs.Invocation.{Fragment, invoked, no_outcome, writes, fragment_inputs}
 use Rattle.draw_model.specs.SampleWrites.{after_sample, samples_of}
 use Rattle.draw_model.specs.WholeDraw.{layers_of, fragment_outcome, after_outcome, after_fragment, fragment_work}
-use Rattle.int_device.specs.PreparedFor.{PreparedFor}
+use Rattle.spv_exec.specs.PreparedFor.{PreparedFor}
 use Rattle.int_device.specs.SampleRules.{AreRules, bound_depth, rules_of, samples_by}
 use Rattle.int_device.specs.declared.primitive.Primitive.{Primitive}
 use Rattle.int_device.specs.Draws.{Shade, Draws, fragment_by, fragments_at, fragments_in_row, fragments_in_layer, fragments_if_masked, fragments_in_layers, some_mask, fragments_by}

@@ -15,7 +15,7 @@ use Rattle.draw_model.specs.WholeDraw.{layers_of, after_fragment, fragment_work}
 use Rattle.draw_model.specs.LawfulDraw.{IsSide}
 use Rattle.int_device.specs.declared.sample_rules.SampleRules.{SampleRules}
 use Rattle.int_device.specs.declared.primitive.Primitive.{Primitive}
-use Rattle.int_device.specs.PreparedFor.{PreparedFor}
+use Rattle.spv_exec.specs.PreparedFor.{PreparedFor}
 use Rattle.int_device.specs.SampleRules.{rules_of, AreRules}
 
 -- A fragment stage, and what its invocations are given.

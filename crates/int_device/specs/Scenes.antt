@@ -20,7 +20,7 @@ use Rattle.draw_model.specs.Invocation.{Fragment, is_drawn}
 use Rattle.draw_model.specs.WholeDraw.{fragment_stage, vertex_outcome, vertices_of, is_culled, after_fragment, fragment_work, fragments_of}
 use Rattle.prerast_lib.specs.Guarded.{facing_of}
 use Rattle.int_device.specs.declared.assembled.Assembled.{Assembled}
-use Rattle.int_device.specs.PreparedFor.{PreparedFor}
+use Rattle.spv_exec.specs.PreparedFor.{PreparedFor}
 use Rattle.int_device.specs.Draws.{Shade, fragments_by}
 
 -- A vertex stage, and what its invocations are given.

@@ -5,7 +5,6 @@ mod assembled;
 mod canvas;
 mod drawing;
 mod fragment;
-mod prepared_stub;
 mod primitive;
 mod sample_rules;
 mod samples;

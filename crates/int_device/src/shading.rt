@@ -10,7 +10,7 @@ ghost use Rattle.int_device.specs.Draws.{Draws, Shade, IsShading, fragments_at, 
 
 use crate::canvas::Canvas;
 use crate::fragment::Fragment;
-use crate::prepared_stub::Prepared;
+use spv_exec::Prepared;
 use crate::primitive::Primitive;
 use crate::sample_rules::{SampleRules, rules_of};
 use crate::samples::{is_in_mask, write_samples};

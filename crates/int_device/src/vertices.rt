@@ -6,7 +6,7 @@ ghost use Rattle.draw_model.specs.Invocation.{attributes_at, is_drawn, vertex_in
 ghost use Rattle.int_device.specs.Scenes.{Scene, IsScene, assembled_in, outcome_in, point_of, triangle_of};
 
 use crate::assembled::Assembled;
-use crate::prepared_stub::Prepared;
+use spv_exec::Prepared;
 use crate::unit::count_insts;
 use draw_model::{DrawCall, Dynamic};
 use limits::{COMPONENTS, LOCATIONS};

@@ -1,5 +1,5 @@
 use Rattle.std.proofs.Common.{refl, sym, subst}
-use Rattle.int_device.specs.PreparedFor.{PreparedFor}
+use Rattle.spv_exec.specs.PreparedFor.{PreparedFor}
 use Rattle.int_device.specs.SampleRules.{AreRules}
 use Rattle.int_device.specs.Draws.{IsShading}
 use Rattle.int_device.proofs.Shades.{rules_limited}
