@@ -112,8 +112,8 @@ gathers insts frame front back place value inst x r at ids ids_are at_is s =
     let size = r.size in let room = r.fits in
     let before : AreBefore insts place ids = subst (AreBefore insts place) (sym ids_are) x.before in
     let are : flat_map (shown_of insts front) ids ≡ in_frame (program_of insts) value =
-        ap (λ (l : List ℕ). flat_map (shown_of insts l) ids) s.front_is ∙ (same_gathered insts frame place at ids (sym at_is) s.within before
-        ∙ (ap (flat_map (shown_of insts frame)) ids_are ∙ sym x.are)) in
+    ap (λ (l : List ℕ). flat_map (shown_of insts l) ids) s.front_is ∙ (same_gathered insts frame place at ids (sym at_is) s.within before
+    ∙ (ap (flat_map (shown_of insts frame)) ids_are ∙ sym x.are)) in
     record {
       fits = (let e = ap length are in omega (arith, e, size, room, b, at_is));
       there = shown_front insts front place ids (sym at_is ∙ sym f) before;
@@ -138,14 +138,14 @@ picks insts frame front back place value inst x r first second at of literals fi
     let place_is = first_asked.place x.first first_there in let count_is = count_asked.words x.first first_there in let other_is = second_asked.place x.second second_there in
     let count : ℕ = frame_words program (inst_at insts x.second) in
     let fit : list_all (λ literal. nat_lt literal (of.count + count) || (literal == no_component)) literals ≡ true =
-        ap (list_all (λ literal. nat_lt literal (of.count + count) || (literal == no_component))) literals_are ∙ subst (λ (n : ℕ). list_all (λ literal. nat_lt literal (n + count) || (literal == no_component)) (words_from 4 inst) ≡ true) (sym count_is) x.fit in
+    ap (list_all (λ literal. nat_lt literal (of.count + count) || (literal == no_component))) literals_are ∙ subst (λ (n : ℕ). list_all (λ literal. nat_lt literal (n + count) || (literal == no_component)) (words_from 4 inst) ≡ true) (sym count_is) x.fit in
     let front_picks = picked_front frame at of count literals s.within (omega (arith, place_is, count_is, before, at_is)) (omega (arith, other_is, also, at_is)) fit in
     let vectors : words_at frame of.first of.count ++ words_at frame of.second count ≡ words_at frame (frame_place program x.first) (frame_words program (inst_at insts x.first)) ++ words_at frame (frame_place program x.second) count =
-        ap (λ (n : ℕ). words_at frame n of.count ++ words_at frame of.second count) place_is ∙ (ap (λ (n : ℕ). words_at frame (frame_place program x.first) n ++ words_at frame of.second count) count_is
-        ∙ ap (λ (n : ℕ). words_at frame (frame_place program x.first) (frame_words program (inst_at insts x.first)) ++ words_at frame n count) other_is) in
+    ap (λ (n : ℕ). words_at frame n of.count ++ words_at frame of.second count) place_is ∙ (ap (λ (n : ℕ). words_at frame (frame_place program x.first) n ++ words_at frame of.second count) count_is
+    ∙ ap (λ (n : ℕ). words_at frame (frame_place program x.first) (frame_words program (inst_at insts x.first)) ++ words_at frame n count) other_is) in
     let are : map (picked_of front of) literals ≡ in_frame program value =
-        ap (λ (l : List ℕ). map (picked_of l of) literals) s.front_is ∙ (front_picks ∙ (ap (λ (l : List ℕ). map (picked l) literals) vectors
-        ∙ (ap (map (picked (words_at frame (frame_place program x.first) (frame_words program (inst_at insts x.first)) ++ words_at frame (frame_place program x.second) count))) literals_are ∙ sym x.are))) in
+    ap (λ (l : List ℕ). map (picked_of l of) literals) s.front_is ∙ (front_picks ∙ (ap (λ (l : List ℕ). map (picked l) literals) vectors
+    ∙ (ap (map (picked (words_at frame (frame_place program x.first) (frame_words program (inst_at insts x.first)) ++ words_at frame (frame_place program x.second) count))) literals_are ∙ sym x.are))) in
     record {
       fits = (let e = ap length are in let m = length-map literals (picked_of front of) in omega (arith, e, m, size, room, b, at_is));
       are = are;

@@ -101,7 +101,7 @@ step_zeros words v entries place at count frame new inst b z within front inst_i
     let room = room_here words.insts entries place frame within before in
     defined_more words.insts entries place frame new within g
     (writes (omega (arith, room, at_is, count_is)) ∙ ap (λ (n : ℕ). written frame n (replicate count 0)) at_is
-      ∙ ap (λ (n : ℕ). written frame (frame_place program place) (replicate n 0)) (sym size) ∙ ap (written frame (frame_place program place)) (sym shown)) before
+    ∙ ap (λ (n : ℕ). written frame (frame_place program place) (replicate n 0)) (sym size) ∙ ap (written frame (frame_place program place)) (sym shown)) before
 
 -- ---- one word
 
@@ -229,4 +229,4 @@ step_composite words entries place at frame front back to ids within at_is front
     let program = program_of words.insts in
     defined_more words.insts entries place frame (front ++ to) within g
     (split_written frame front back to at (in_frame program g.value) (record { front_is = front_is; back_is = back_is; within = at_within words.insts entries place at frame within at_is before }) (to_is ∙ ap (written back 0) gathered.are)
-      ∙ ap (λ (n : ℕ). written frame n (in_frame program g.value)) at_is) before
+    ∙ ap (λ (n : ℕ). written frame n (in_frame program g.value)) at_is) before

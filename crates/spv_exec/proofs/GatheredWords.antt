@@ -70,7 +70,7 @@ gathered_more insts front ids before to k at from count new g less c room copied
     let n = next_room insts front ids k less in let p = g.place in let l = w.long in let stands = w.fits in
     let one : flat_map f (word ∷ []) ≡ f word = flat_map-cons f word [] ∙ append-nil (f word) in
     let more : first_words insts front ids (k + 1) ≡ first_words insts front ids k ++ f word =
-        ap (flat_map f) (take_more ids k 0 less) ∙ (flat_map-append f (take k ids) (word ∷ []) ∙ ap (λ (l : List ℕ). first_words insts front ids k ++ l) one) in
+    ap (flat_map f) (take_more ids k 0 less) ∙ (flat_map-append f (take k ids) (word ∷ []) ∙ ap (λ (l : List ℕ). first_words insts front ids k ++ l) one) in
     let long : length to ≡ length before = ap length g.are ∙ length_written before (first_words insts front ids k) 0 (omega (arith, n, room)) in
     let is = copied stands (omega (arith, p, l, n, room, long)) in
     record {
@@ -87,7 +87,7 @@ same_gathered insts frame place at (id ∷ ids) is room before =
     let b = before 0 (omega arith) in let fits = b.before in
     let d : (l : List ℕ) → shown_of insts l id ≡ words_at l (frame_place (program_of insts) b.at) (frame_words (program_of insts) (inst_at insts b.at)) = λ l. ap (shown_at insts l) b.defined in
     let here : shown_of insts (take at frame) id ≡ shown_of insts frame id =
-        d (take at frame) ∙ (front_words frame at (frame_place (program_of insts) b.at) (frame_words (program_of insts) (inst_at insts b.at)) (omega (arith, fits, is)) ∙ sym (d frame)) in
+    d (take at frame) ∙ (front_words frame at (frame_place (program_of insts) b.at) (frame_words (program_of insts) (inst_at insts b.at)) (omega (arith, fits, is)) ∙ sym (d frame)) in
     let rest = same_gathered insts frame place at ids is room (λ k less. before (suc k) (omega (arith, less))) in
     flat_map-cons (shown_of insts (take at frame)) id ids ∙ (ap (λ (l : List ℕ). l ++ flat_map (shown_of insts (take at frame)) ids) here
     ∙ (ap (λ (l : List ℕ). shown_of insts frame id ++ l) rest ∙ sym (flat_map-cons (shown_of insts frame) id ids)))

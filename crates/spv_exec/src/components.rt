@@ -38,7 +38,14 @@ pub fn write_binary(op: u16, left: usize, right: usize, at: usize, count: usize,
 }
 
 /// Writes so many words, each the first or the second, as the words of truth values choose.
-pub fn write_chosen(conditions: usize, first: usize, second: usize, at: usize, count: usize, frame: &mut [u32])
+pub fn write_chosen(
+    conditions: usize,
+    first: usize,
+    second: usize,
+    at: usize,
+    count: usize,
+    frame: &mut [u32],
+)
     requires room { at + count ≤ length frame.old }
     requires conditions_within { conditions + count ≤ length frame.old }
     requires first_within { first + count ≤ length frame.old }
@@ -55,7 +62,14 @@ pub fn write_chosen(conditions: usize, first: usize, second: usize, at: usize, c
 }
 
 /// Writes so many words of the first or the second part, as the word of a truth value chooses.
-pub fn write_whole(condition: usize, first: usize, second: usize, at: usize, count: usize, frame: &mut [u32])
+pub fn write_whole(
+    condition: usize,
+    first: usize,
+    second: usize,
+    at: usize,
+    count: usize,
+    frame: &mut [u32],
+)
     requires room { at + count ≤ length frame.old }
     requires condition_within { condition < length frame.old }
     requires first_within { first + count ≤ length frame.old }
@@ -82,11 +96,7 @@ fn write_copy(from: usize, at: usize, count: usize, frame: &mut [u32])
 fn chosen_word(condition: u32, first: u32, second: u32) -> u32
     ensures { result ≡ chosen_word condition first second }
 {
-    if condition != 0 {
-        first
-    } else {
-        second
-    }
+    if condition != 0 { first } else { second }
 }
 
 /// Writes whether one of so many words is a true one.

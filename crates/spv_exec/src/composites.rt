@@ -91,7 +91,13 @@ pub fn run_insert(of: &ModuleFrame<'_>, place: usize, frame: &mut [u32])
     let start = part_start(of, type_of(of, whole), inst.words_from(4));
     let (front, to) = frame.split_at_mut(at);
     copy_words(front, of.operand(whole), operand_words(of, whole), to, 0);
-    copy_words(front, of.operand(object), operand_words(of, object), to, start);
+    copy_words(
+        front,
+        of.operand(object),
+        operand_words(of, object),
+        to,
+        start,
+    );
 }
 
 /// Two vectors: where their words begin, and how many the first has.

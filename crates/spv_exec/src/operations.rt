@@ -8,7 +8,9 @@ ghost use Rattle.frame_model.specs.Written.{GivesAt, GivesSome, written};
 ghost use Rattle.spv_exec.specs.Opcodes.{is_on_components};
 ghost use Rattle.spv_exec.specs.ScalarWords.{AreWords};
 
-use crate::components::{write_all, write_any, write_binary, write_chosen, write_unary, write_whole};
+use crate::components::{
+    write_all, write_any, write_binary, write_chosen, write_unary, write_whole,
+};
 use crate::module_frame::ModuleFrame;
 use spirv_model::op;
 use spv_ops::result_word;
@@ -92,7 +94,14 @@ fn run_binary(of: &ModuleFrame<'_>, place: usize, left: u32, right: u32, frame: 
     )
 }
 
-fn run_select(of: &ModuleFrame<'_>, place: usize, condition: u32, first: u32, second: u32, frame: &mut [u32])
+fn run_select(
+    of: &ModuleFrame<'_>,
+    place: usize,
+    condition: u32,
+    first: u32,
+    second: u32,
+    frame: &mut [u32],
+)
     requires gives { GivesSome (program_of of.now.insts) frame.old place }
     requires is { is_on_components (inst_at of.now.insts place).op ≡ true }
     requires reads { drop 2 (inst_at of.now.insts place).words ≡ condition ∷ first ∷ second ∷ [] }
@@ -120,7 +129,10 @@ fn span(of: &ModuleFrame<'_>, id: u32) -> (usize, usize)
         → result.1 ≡ frame_words (program_of of.now.insts) (inst_at of.now.insts place) }
 {
     match of.definition(id) {
-        Some(place) => (of.frame_place(place as usize), of.frame_words(place as usize)),
+        Some(place) => (
+            of.frame_place(place as usize),
+            of.frame_words(place as usize),
+        ),
         None => (0, 0),
     }
 }

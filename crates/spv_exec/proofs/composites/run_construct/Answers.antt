@@ -41,7 +41,7 @@ returns c = λ held value g.
     let r : Room of.insts c.args.frame.now c.args.place value = given_room of v c.args.frame.now held c.args.place value g in
     let fits = r.fits in let at = c.frame_place.ensures in
     let s : IsSplit c.args.frame.now c.split_at_mut-front.result.0.now c.split_at_mut-front.result.1.now c.frame_place.result =
-        record { front_is = c.split_at_mut-front.ensures.front; back_is = c.split_at_mut-front.ensures.back; within = omega (arith, fits, at) } in
+    record { front_is = c.split_at_mut-front.ensures.front; back_is = c.split_at_mut-front.ensures.back; within = omega (arith, fits, at) } in
     let e = gathers of.insts c.args.frame.now c.split_at_mut-front.result.0.now c.split_at_mut-front.result.1.now c.args.place value c.inst.result.now x r c.frame_place.result c.words_from.result.now c.words_from.ensures c.frame_place.ensures s in
     split_written c.args.frame.now c.split_at_mut-front.result.0.now c.split_at_mut-front.result.1.now c.gather_words.new.to c.frame_place.result (in_frame (program_of of.insts) value) s
     (c.gather_words.ensures ∙ ap (written c.split_at_mut-front.result.1.now 0) e.are)

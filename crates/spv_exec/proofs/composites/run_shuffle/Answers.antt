@@ -34,10 +34,10 @@ returns c = λ held value g.
     let r : Room of.insts c.args.frame.now c.args.place value = given_room of v c.args.frame.now held c.args.place value g in
     let fits = r.fits in let at = c.frame_place.ensures in
     let s : IsSplit c.args.frame.now c.split_at_mut-front.result.0.now c.split_at_mut-front.result.1.now c.frame_place.result =
-        record { front_is = c.split_at_mut-front.ensures.front; back_is = c.split_at_mut-front.ensures.back; within = omega (arith, fits, at) } in
+    record { front_is = c.split_at_mut-front.ensures.front; back_is = c.split_at_mut-front.ensures.back; within = omega (arith, fits, at) } in
     let e = picks of.insts c.args.frame.now c.split_at_mut-front.result.0.now c.split_at_mut-front.result.1.now c.args.place value c.inst-inst.result.now x r c.word-first.result c.word-second.result c.frame_place.result
-        (record { first = c.operand.result; count = c.operand_words.result; second = c.operand-2.result }) c.words_from.result.now c.word-first.ensures c.word-second.ensures c.words_from.ensures c.frame_place.ensures s
-        (record { place = c.operand.ensures }) (record { words = c.operand_words.ensures.there }) (record { place = c.operand-2.ensures }) in
+    (record { first = c.operand.result; count = c.operand_words.result; second = c.operand-2.result }) c.words_from.result.now c.word-first.ensures c.word-second.ensures c.words_from.ensures c.frame_place.ensures s
+    (record { place = c.operand.ensures }) (record { words = c.operand_words.ensures.there }) (record { place = c.operand-2.ensures }) in
     split_written c.args.frame.now c.split_at_mut-front.result.0.now c.split_at_mut-front.result.1.now c.pick_words.new.to c.frame_place.result (in_frame (program_of of.insts) value) s
     (c.pick_words.ensures ∙ ap (written c.split_at_mut-front.result.1.now 0) e.are)
     ∙ ap (λ (n : ℕ). written c.args.frame.now n (in_frame (program_of of.insts) value)) c.frame_place.ensures

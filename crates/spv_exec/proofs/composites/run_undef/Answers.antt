@@ -19,7 +19,7 @@ clear_words-requires c =
     let r : Room c.args.of.now.insts c.args.frame.now c.args.place some.value = given_room c.args.of.now c.module-module.ensures.valid c.args.frame.now some.held c.args.place some.value some.gives in
     let fits = r.fits in let at = c.frame_place.ensures in let count = c.frame_words-count.ensures in
     let l = split_lengths c.args.frame.now c.split_at_mut-to.result.0.now c.split_at_mut-to.result.1.now c.frame_place.result
-        (record { front_is = c.split_at_mut-to.ensures.front; back_is = c.split_at_mut-to.ensures.back; within = omega (arith, fits, at) }) in
+    (record { front_is = c.split_at_mut-to.ensures.front; back_is = c.split_at_mut-to.ensures.back; within = omega (arith, fits, at) }) in
     let b = l.1 in
     omega (arith, fits, at, count, b)
 
