@@ -1,5 +1,5 @@
 -- What an instruction of a valid module that makes a composite or takes one apart gives its result, in words of the frame.
-use Rattle.std.proofs.Common.{◌≡◌, ℕ, ◌+◌, ◌≤◌, ◌==◌, Bool, true, false, List, length, replicate, refl, ap, sym, ◌∙◌, subst, arith, Option, Some, is_some}
+use Rattle.std.proofs.Common.{◌≡◌, ℕ, ◌+◌, ◌≤◌, ◌==◌, true, List, length, replicate, refl, ap, ◌∙◌, arith, Some, is_some}
 use Rattle.spirv_model.specs.declared.module.Inst.{Inst}
 use Rattle.spirv_model.specs.declared.module.Words.{Words}
 use Rattle.spirv_model.specs.declared.op.TheConstants as op
@@ -11,11 +11,11 @@ use Rattle.check_model.specs.CompositeOperands.{composite_operands_fit}
 use Rattle.check_model.specs.Typing.{constant_word}
 use Rattle.check_model.specs.Validity.{IsValidList}
 use Rattle.stage_model.specs.Value.{Value}
-use Rattle.stage_model.specs.Program.{Program, program_of}
+use Rattle.stage_model.specs.Program.{program_of}
 use Rattle.stage_model.specs.Start.{Memory}
-use Rattle.stage_model.specs.Effect.{Gives, read_ids, has_result_class, effect_of}
+use Rattle.stage_model.specs.Effect.{Gives, read_ids, effect_of}
 use Rattle.typed_model.specs.Values.{IsOfType}
-use Rattle.typed_model.specs.Types.{AllSuit, typing_in}
+use Rattle.typed_model.specs.Types.{AllSuit}
 use Rattle.typed_model.proofs.EffectsRun.{instruction}
 use Rattle.typed_model.proofs.PlainRuns.{at_op}
 use Rattle.typed_model.proofs.ReadValues.{typing_here}
@@ -89,7 +89,7 @@ pub insert_given : (words : Words) → IsValidList words → (frame : List ℕ) 
 insert_given words v frame held place value g is =
     made_by words v frame held place value g (InsertAt words.insts frame place value) op.COMPOSITE_INSERT is insert_class
     (λ shaped fit operands suit effect typed.
-        insert_words words.insts (constant_word words.insts) (is_vertex (facts_of words.insts)) frame held place (inst_at words.insts place).words g.read value shaped fit operands effect typed)
+    insert_words words.insts (constant_word words.insts) (is_vertex (facts_of words.insts)) frame held place (inst_at words.insts place).words g.read value shaped fit operands effect typed)
 
 pub construct_given : (words : Words) → IsValidList words → (frame : List ℕ) (held : Memory) (place : ℕ) (value : Value) → GivesAt (program_of words.insts) frame held place value → (inst_at words.insts place).op == op.COMPOSITE_CONSTRUCT ≡ true
     → ConstructAt words.insts frame place value (inst_at words.insts place)
@@ -102,7 +102,7 @@ pub shuffle_given : (words : Words) → IsValidList words → (frame : List ℕ)
 shuffle_given words v frame held place value g is =
     made_by words v frame held place value g (ShuffleAt words.insts frame place value) op.VECTOR_SHUFFLE is shuffle_class
     (λ shaped fit operands suit effect typed.
-        shuffle_words words.insts (valid_types words v.sound) (constant_word words.insts) (is_vertex (facts_of words.insts)) frame held place (inst_at words.insts place).words g.read value shaped fit operands suit effect)
+    shuffle_words words.insts (valid_types words v.sound) (constant_word words.insts) (is_vertex (facts_of words.insts)) frame held place (inst_at words.insts place).words g.read value shaped fit operands suit effect)
 
 pub undef_given : (words : Words) → IsValidList words → (frame : List ℕ) (held : Memory) (place : ℕ) (value : Value) → GivesAt (program_of words.insts) frame held place value → (inst_at words.insts place).op == op.UNDEF ≡ true
     → in_frame (program_of words.insts) value ≡ replicate (frame_words (program_of words.insts) (inst_at words.insts place)) 0

@@ -165,9 +165,6 @@ no_size layout (OfShape Function) isnt = refl
 no_size layout (OfShape shape) isnt = cc
 no_size layout m isnt = refl
 
-record Few (known : Option IdFacts) : Type 0 where
-  few : size_in known ≤ TYPE_WORDS
-
 size_case : (here : Bool) (before : Option IdFacts) (own : Option Layout) (made : IdFacts) (layout : ℕ → Option Layout) (m : Meaning) → (before ≡ None → own ≡ None) → (is_data (meaning_in before) ≡ true → (l : Layout) × (own ≡ Some l))
     → size_in before ≡ size_of_layout own → (before ≡ None → here ≡ true → made.meaning ≡ m) → ((facts : IdFacts) → before ≡ Some facts → facts.meaning ≡ m) → made.size ≡ size_of_layout (layout_of layout made.meaning)
     → size_in (if here && is_none before then Some made else before) ≡ size_of_layout (if here && is_none own then layout_of layout m else own)

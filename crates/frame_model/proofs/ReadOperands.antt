@@ -8,7 +8,7 @@ use Rattle.spirv_model.specs.declared.module.Words.{Words}
 use Rattle.spirv_model.specs.declared.op.TheConstants as op
 use Rattle.spirv_model.specs.declared.class.Class.{Class}
 use Rattle.spirv_model.specs.declared.class.Class.TheVariants as class
-use Rattle.spirv_model.specs.Operands.{word_at, class_of, entry_of, kinds}
+use Rattle.spirv_model.specs.Operands.{class_of, entry_of, kinds}
 use Rattle.valid_model.specs.Definitions.{definition, inst_at}
 use Rattle.valid_model.specs.Meanings.{meaning}
 use Rattle.valid_model.specs.ModuleFacts.{is_vertex, facts_of}
@@ -21,20 +21,17 @@ use Rattle.check_model.specs.Visibility.{is_defined_for}
 use Rattle.stage_model.specs.Value.{Value}
 use Rattle.stage_model.specs.Program.{program_of}
 use Rattle.stage_model.specs.Start.{Values, Memory, all_values}
-use Rattle.stage_model.specs.Effect.{read_ids, has_result_class}
+use Rattle.stage_model.specs.Effect.{read_ids}
 use Rattle.typed_model.specs.Values.{IsOfType}
 use Rattle.typed_model.proofs.BlockParts.{another}
 use Rattle.typed_model.proofs.ReadTypes.{Each}
 use Rattle.typed_model.proofs.ReadValues.{IsSeen, uses_seen, typing_here}
 use Rattle.typed_model.proofs.UsedReads.{IsRead, composite_reads}
 use Rattle.typed_model.proofs.ValidModules.{valid_sound, valid_seen}
-use Rattle.typed_model.proofs.ValidTypes.{valid_types}
 use Rattle.frame_model.specs.Frame.{frame_place, frame_words, in_frame}
 use Rattle.frame_model.specs.Shown.{words_at, Shows}
 use Rattle.frame_model.specs.Written.{GivesAt}
-use Rattle.frame_model.proofs.FrameSizes.{value_size}
 use Rattle.frame_model.proofs.FrameWrites.{frame_apart}
-use Rattle.frame_model.proofs.ResultWords.{result_words}
 
 -- the value of an id that is read stands in front of the result of the instruction at a place
 pub record OperandAt (insts : List Inst) (frame : List ℕ) (place id : ℕ) (value : Value) : Type 0 where

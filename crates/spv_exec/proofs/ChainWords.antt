@@ -1,16 +1,16 @@
 -- Steps along indices from a place in the memory.
-use Rattle.std.proofs.Common.{◌≡◌, ℕ, ◌+◌, ◌<◌, ◌≤◌, ◌^◌, ◌%◌, List, [], ◌∷◌, ◌++◌, refl, ap, sym, ◌∙◌, subst, arith, inl, inr, ◌⊎◌, Option, None, Some}
+use Rattle.std.proofs.Common.{◌≡◌, ℕ, ◌+◌, ◌<◌, ◌^◌, ◌%◌, List, [], ◌∷◌, refl, ap, sym, ◌∙◌, subst, arith, inl, inr, Option, None, Some}
 use Rattle.std.specs.Prelude.{slice_index}
 use Rattle.std.specs.Option.{option_and_then}
 use Rattle.std.proofs.Math.Nat.{mod-eq_of_lt}
 use Rattle.valid_model.specs.Definitions.{definition}
-use Rattle.stage_model.specs.Value.{Layout, OneTruth, OneWord, Several, Layouts, size_of, part_at, part_along}
+use Rattle.stage_model.specs.Value.{Layout, OneTruth, OneWord, Several, part_at, part_along}
 use Rattle.stage_model.specs.Program.{Program}
-use Rattle.frame_model.specs.Along.{word_along, ShowsIndex, ShowsIndices, TakesIndices}
+use Rattle.frame_model.specs.Along.{word_along, ShowsIndex, TakesIndices}
 use Rattle.frame_model.specs.Frame.{OUTSIDE, frame_place}
 use Rattle.frame_model.proofs.LayoutParts.{further, along_more, lies_along}
 use Rattle.frame_model.proofs.MemoryAccesses.{further_word}
-use Rattle.spv_exec.specs.Chains.{Along, ComesTo}
+use Rattle.spv_exec.specs.Chains.{ComesTo}
 use Rattle.spv_exec.specs.ModuleFrames.{AnswersPart, HasPartType}
 use Rattle.spv_exec.specs.declared.module_frame.Part.{Part}
 

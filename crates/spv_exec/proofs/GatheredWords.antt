@@ -1,8 +1,8 @@
 -- The words of the values of ids that are written one after another.
-use Rattle.std.proofs.Common.{◌≡◌, ℕ, zero, suc, ◌+◌, ◌<◌, ◌≤◌, List, [], ◌∷◌, ◌++◌, length, take, drop, slice_index, refl, ap, sym, ◌∙◌, subst, arith, length-append, Option, None, Some}
+use Rattle.std.proofs.Common.{◌≡◌, ℕ, suc, ◌+◌, ◌<◌, ◌≤◌, List, [], ◌∷◌, ◌++◌, length, take, slice_index, refl, ap, sym, ◌∙◌, arith, length-append, Some}
 use Rattle.std.specs.List.{flat_map}
 use Rattle.std.proofs.lemmas.Grind.{flat_map-append}
-use Rattle.std.proofs.lemmas.List.{append-nil, take_all, take_more}
+use Rattle.std.proofs.lemmas.List.{append-nil, take_more}
 use Rattle.std.proofs.lemmas.List.Concat.{flat_map-cons}
 use Rattle.std.proofs.lemmas.List.Folds.{length-flat_map-take}
 use Rattle.spirv_model.specs.declared.module.Inst.{Inst}
@@ -12,7 +12,7 @@ use Rattle.frame_model.specs.Frame.{frame_place, frame_words}
 use Rattle.frame_model.specs.Shown.{words_at}
 use Rattle.frame_model.specs.ShownWords.{IsShown, shown_at, shown_of}
 use Rattle.frame_model.specs.Written.{written}
-use Rattle.frame_model.proofs.CompositeResults.{IsBefore, AreBefore}
+use Rattle.frame_model.proofs.CompositeResults.{AreBefore}
 use Rattle.frame_model.proofs.WrittenWords.{length_words_at, length_written, written_none, written_both}
 use Rattle.spv_exec.proofs.SplitWords.{front_words}
 

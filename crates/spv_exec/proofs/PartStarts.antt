@@ -1,7 +1,7 @@
 -- Where the part begins to which literals lead, summed up along the types of parts.
-use Rattle.std.proofs.Common.{◌≡◌, ℕ, zero, ◌+◌, ◌%◌, ◌<◌, ◌≤◌, ◌^◌, ◌⊎◌, inl, inr, List, [], ◌∷◌, drop, refl, ap, sym, ◌∙◌, subst, arith, Option, None, Some}
+use Rattle.std.proofs.Common.{◌≡◌, ℕ, ◌+◌, ◌%◌, ◌<◌, ◌^◌, ◌⊎◌, inl, inr, List, [], ◌∷◌, refl, ap, sym, ◌∙◌, subst, arith, Option, None, Some}
 use Rattle.std.specs.Option.{option_map, option_and_then}
-use Rattle.stage_model.specs.Value.{Layout, OneTruth, OneWord, Several, Layouts, part_at, part_along}
+use Rattle.stage_model.specs.Value.{Layout, OneTruth, OneWord, Several, part_at, part_along}
 use Rattle.stage_model.specs.Program.{Program}
 use Rattle.spv_exec.specs.declared.module_frame.Part.{Part}
 use Rattle.spv_exec.specs.ModuleFrames.{HasPartType, AnswersPart}

@@ -37,13 +37,16 @@ next_place of places last place new to is = record {
       ];
 }
 
--- what is read of the instruction at a place
-pub read_there : (of : Inst → ℕ) (list insts : List Inst) (item : Inst) (place count : ℕ) → list ≡ insts → place < length list → item ≡ get_or list place item → count ≡ of item → (place < length insts) × (count ≡ of (inst_at insts place))
-read_there of list insts item place count same within is known =
+-- the instruction at a place, and what is read of it
+pub there : (list insts : List Inst) (item : Inst) (place : ℕ) → list ≡ insts → place < length list → item ≡ get_or list place item → (place < length insts) × (item ≡ inst_at insts place)
+there list insts item place same within is =
     let e : length list ≡ length insts = ap length same in (
       omega (arith, e, within),
-      known ∙ ap of (is ∙ (get_or_default list place item no_instruction within ∙ ap (λ (l : List Inst). inst_at l place) same)),
+      is ∙ (get_or_default list place item no_instruction within ∙ ap (λ (l : List Inst). inst_at l place) same),
     )
+
+pub read_there : (of : Inst → ℕ) (list insts : List Inst) (item : Inst) (place count : ℕ) → list ≡ insts → place < length list → item ≡ get_or list place item → count ≡ of item → (place < length insts) × (count ≡ of (inst_at insts place))
+read_there of list insts item place count same within is known = let at = there list insts item place same within is in (at.0, known ∙ ap of at.1)
 
 -- ---- in the frame
 

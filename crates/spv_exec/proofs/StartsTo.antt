@@ -4,7 +4,6 @@ use Rattle.std.specs.List.{sum_by}
 use Rattle.std.proofs.Math.ListN.{get_or-append}
 use Rattle.std.proofs.Math.Seq.{get_or-append_seam}
 use Rattle.std.proofs.lemmas.Bool.{cases_lt}
-use Rattle.std.proofs.lemmas.List.{get_or_default}
 use Rattle.std.proofs.lemmas.List.Sums.{sum_by_more, sum_by_more_le, sum_by-take-le}
 use Rattle.limits.specs.declared.TheConstants.{TYPE_WORDS, MODULE_WORDS}
 use Rattle.spirv_model.specs.declared.module.Inst.{Inst}
@@ -144,11 +143,3 @@ inst_room words v place within =
     let all = words_few words v in
     let l = sum_by_more_le (λ (inst : Inst). length inst.words) words.insts place no_instruction within in
     omega (arith, all, l)
-
--- the instruction at a place
-pub there : (list insts : List Inst) (item : Inst) (place : ℕ) → list ≡ insts → place < length list → item ≡ get_or list place item → (place < length insts) × (item ≡ inst_at insts place)
-there list insts item place same within is =
-    let e : length list ≡ length insts = ap length same in (
-      omega (arith, e, within),
-      is ∙ (get_or_default list place item no_instruction within ∙ ap (λ (l : List Inst). inst_at l place) same),
-    )

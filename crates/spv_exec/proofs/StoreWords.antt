@@ -1,13 +1,13 @@
 -- What a store leaves in the memory.
-use Rattle.std.proofs.Common.{◌≡◌, ℕ, ◌+◌, ◌≤◌, List, length, get_or, ap, sym, ◌∙◌, subst, arith, Option, Some}
+use Rattle.std.proofs.Common.{◌≡◌, ℕ, ◌+◌, ◌≤◌, List, length, ap, sym, ◌∙◌, subst, arith, Option, Some}
 use Rattle.spirv_model.specs.declared.module.Words.{Words}
-use Rattle.valid_model.specs.Definitions.{definition, inst_at}
+use Rattle.valid_model.specs.Definitions.{inst_at}
 use Rattle.check_model.specs.Validity.{IsValidList}
 use Rattle.stage_model.specs.Value.{Value}
 use Rattle.stage_model.specs.Program.{Program, program_of}
 use Rattle.stage_model.specs.Start.{Memory}
-use Rattle.stage_model.specs.Effect.{Effect, Passes, Writes, with_words}
-use Rattle.frame_model.specs.Frame.{OUTSIDE, frame_words, frame_place, in_frame}
+use Rattle.stage_model.specs.Effect.{Effect, Passes, with_words}
+use Rattle.frame_model.specs.Frame.{frame_words, frame_place, in_frame}
 use Rattle.frame_model.specs.Shown.{words_at, ShowsMemory}
 use Rattle.frame_model.specs.Written.{written}
 use Rattle.frame_model.proofs.AccessOperands.{StoreStands, store_stands, StoreWrites}

@@ -5,7 +5,7 @@ use Rattle.spirv_model.specs.declared.module.Words.{Words}
 use Rattle.check_model.specs.Validity.{IsValidList}
 use Rattle.stage_model.specs.declared.outcome.Kind.{Kind}
 use Rattle.stage_model.specs.Program.{program_of}
-use Rattle.stage_model.specs.Machine.{State, Machine, GoesOn, Ends, step, run}
+use Rattle.stage_model.specs.Machine.{State, Machine, Step, GoesOn, Ends, step, run}
 use Rattle.stage_model.specs.Stage.{enough_steps}
 use Rattle.typed_model.specs.Running.{IsRunning}
 use Rattle.frame_model.specs.Shown.{Shows, ShowsMemory, IsFrame}
@@ -17,21 +17,32 @@ use Rattle.spv_exec.specs.declared.stand.End.{End}
 abbrev pub start : ℕ → Stand
 start first = record { place = first; label = 0; before = 0; back_edges = 0; work = 0 }
 
+-- the state has come to this, its values and its variables aside
+pub record IsAt (state : State) (at : Stand) : Type 0 where
+  pub label : state.label ≡ at.label
+  pub before : state.before ≡ at.before
+  pub back_edges : state.back_edges ≡ at.back_edges
+  pub work : state.steps ≡ at.work
+
+-- a step goes on to where this stands, or ends so; values and variables aside
+abbrev pub LeadsTo : Option Kind → Stand → Step → Type 0
+LeadsTo None at (GoesOn m) = (m.place ≡ at.place) × IsAt m.state at
+LeadsTo None at (Ends kind state) = ⊥
+LeadsTo (Some kind) at (GoesOn m) = ⊥
+LeadsTo (Some kind) at (Ends own state) = (own ≡ kind) × IsAt state at
+
 -- a machine that runs stands here; the frame shows the values of its ids, `incoming` what the phis take that are due, and the memory its variables
 pub record Stands (words : Words) (m : Machine) (at : Stand) (frame incoming memory : List ℕ) : Type 0 where
   pub valid : IsValidList words
   pub running : IsRunning words.insts valid.derivation m
   pub place : m.place ≡ at.place
-  pub label : m.state.label ≡ at.label
-  pub before : m.state.before ≡ at.before
-  pub back_edges : m.state.back_edges ≡ at.back_edges
+  pub state : IsAt m.state at
   pub few : at.back_edges < BACK_EDGES
-  pub work : m.state.steps ≡ at.work
   pub size : IsFrame (program_of words.insts) frame
   pub shows : Shows (program_of words.insts) frame m.state.values
   pub incoming_size : IsFrame (program_of words.insts) incoming
-  pub incoming : ShowsTaken (program_of words.insts) incoming m.state.values_at_entry m.state.before m.place
-  pub memory : ShowsMemory (program_of words.insts) memory m.state.memory
+  pub taken : ShowsTaken (program_of words.insts) incoming m.state.values_at_entry m.state.before m.place
+  pub holds : ShowsMemory (program_of words.insts) memory m.state.memory
 
 pub record StandsSome (words : Words) (at : Stand) (frame incoming memory : List ℕ) : Type 0 where
   pub machine : Machine

@@ -15,7 +15,8 @@ pub fn write_unary(op: u16, from: usize, at: usize, count: usize, frame: &mut [u
     requires room { at + count ≤ length frame.old }
     requires within { from + count ≤ length frame.old }
     requires apart { (from + count ≤ at) ⊎ (at ≤ from) }
-    ensures { frame.new ≡ written frame.old at (map (word_of_one op) (words_at frame.old from count)) }
+    ensures { frame.new ≡ written frame.old at
+        (map (word_of_one op) (words_at frame.old from count)) }
 {
     for k in 0..count {
         frame[at + k] = unary_word(op, frame[from + k]);
@@ -29,8 +30,8 @@ pub fn write_binary(op: u16, left: usize, right: usize, at: usize, count: usize,
     requires right_within { right + count ≤ length frame.old }
     requires left_apart { (left + count ≤ at) ⊎ (at ≤ left) }
     requires right_apart { (right + count ≤ at) ⊎ (at ≤ right) }
-    ensures { frame.new ≡ written frame.old at
-        (on_both (word_of_two op) (words_at frame.old left count) (words_at frame.old right count)) }
+    ensures { frame.new ≡ written frame.old at (on_both (word_of_two op)
+        (words_at frame.old left count) (words_at frame.old right count)) }
 {
     for k in 0..count {
         frame[at + k] = binary_word(op, frame[left + k], frame[right + k]);

@@ -1,15 +1,15 @@
-ghost use Rattle.std.specs.Prelude.{◌≡◌, ◌==◌, ◌<◌, ◌≤◌, ◌+◌, ◌^◌, true, ℕ, List, [], ◌++◌, length, map, drop, replicate, slice_index, None, Some};
+ghost use Rattle.std.specs.Prelude.{◌≡◌, ◌==◌, ◌<◌, ◌≤◌, ◌+◌, ◌^◌, true, ℕ, length, map, replicate, slice_index, None, Some};
 ghost use Rattle.std.specs.List.{flat_map};
 ghost use Rattle.valid_model.specs.Definitions.{definition, inst_at};
 ghost use Rattle.valid_model.specs.Meanings.{meaning};
 ghost use Rattle.check_model.specs.Typing.{type_id};
-ghost use Rattle.stage_model.specs.Value.{Value, Layout, part_along, size_of};
+ghost use Rattle.stage_model.specs.Value.{Value, Layout, part_along};
 ghost use Rattle.stage_model.specs.Start.{Memory};
 ghost use Rattle.stage_model.specs.Program.{program_of};
 ghost use Rattle.frame_model.specs.Frame.{frame_place, frame_words, in_frame};
 ghost use Rattle.frame_model.specs.Written.{GivesAt, GivesSome, written};
-ghost use Rattle.spirv_model.specs.declared.op.TheConstants as op;
 ghost use Rattle.frame_model.specs.ShownWords.{IsShown, shown_of};
+ghost use Rattle.spirv_model.specs.declared.op.TheConstants as op;
 ghost use Rattle.spv_exec.specs.Composites.{picked_of};
 
 use crate::copies::copy_words;
@@ -91,13 +91,8 @@ pub fn run_insert(of: &ModuleFrame<'_>, place: usize, frame: &mut [u32])
     let start = part_start(of, type_of(of, whole), inst.words_from(4));
     let (front, to) = frame.split_at_mut(at);
     copy_words(front, of.operand(whole), operand_words(of, whole), to, 0);
-    copy_words(
-        front,
-        of.operand(object),
-        operand_words(of, object),
-        to,
-        start,
-    );
+    let count = operand_words(of, object);
+    copy_words(front, of.operand(object), count, to, start);
 }
 
 /// Two vectors: where their words begin, and how many the first has.
@@ -185,13 +180,13 @@ fn pick_words(front: &[u32], vectors: Vectors, literals: &[u32], to: &mut [u32])
 fn pick_word(front: &[u32], vectors: Vectors, literal: u32) -> u32
     ensures { result ≡ picked_of front.now vectors literal }
 {
-    let literal_place = literal as usize;
+    let at = literal as usize;
     if literal == u32::MAX {
         0
-    } else if literal_place < vectors.count {
-        word_behind(front, vectors.first, literal_place)
+    } else if at < vectors.count {
+        word_behind(front, vectors.first, at)
     } else {
-        word_behind(front, vectors.second, literal_place - vectors.count)
+        word_behind(front, vectors.second, at - vectors.count)
     }
 }
 

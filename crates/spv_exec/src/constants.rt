@@ -38,7 +38,8 @@ pub fn first_frame(
     Ok(frame)
 }
 
-fn zeros(alloc: Global, count: usize) -> Result<Vec<u32>, AllocError>
+/// So many zeros.
+pub fn zeros(alloc: Global, count: usize) -> Result<Vec<u32>, AllocError>
     ensures { IfOk result (λ words. words.items ≡ replicate count 0) }
 {
     let mut words = Vec::new(alloc);

@@ -113,7 +113,8 @@ impl<'m> ModuleFrame<'m> {
     #[tactic(auto, using(crate::proofs::PlacesTo::memory_step))]
     pub fn memory_words(&self, place: usize) -> usize
         requires { place < length self.now.insts }
-        ensures { result ≡ variable_words (program_of self.now.insts) (inst_at self.now.insts place) }
+        ensures { result
+            ≡ variable_words (program_of self.now.insts) (inst_at self.now.insts place) }
     {
         (self.memory[place + 1] - self.memory[place]) as usize
     }
@@ -128,7 +129,8 @@ impl<'m> ModuleFrame<'m> {
     /// Where the value of an id begins in the frame; 0 without a definition.
     #[tactic(auto, using(typed_model::proofs::ValidTypes::defined_within))]
     pub fn operand(&self, id: u32) -> usize
-        ensures { (place : ℕ) → definition self.now.insts id ≡ Some place → result ≡ frame_place (program_of self.now.insts) place }
+        ensures { (place : ℕ) → definition self.now.insts id ≡ Some place
+            → result ≡ frame_place (program_of self.now.insts) place }
     {
         match self.definition(id) {
             Some(place) => self.frame_place(place as usize),
@@ -199,7 +201,8 @@ impl<'m> ModuleFrame<'m> {
     /// The member of a structure with an index.
     fn member(&self, ty: u32, members: &[u32], index: u32) -> Option<Part>
         requires { IsStructOf self.now ty members.now }
-        ensures { (layouts : Layouts) → layouts_of (program_of self.now.insts).layout members.now ≡ Some layouts
+        ensures { (layouts : Layouts)
+            → layouts_of (program_of self.now.insts).layout members.now ≡ Some layouts
             → AnswersPart (program_of self.now.insts) (Several layouts) index result }
     {
         let at = index as usize;

@@ -43,37 +43,16 @@ fn module_words(alloc: Global, insts: &[(u16, &[u32])]) -> Result<Vec<u32>, Allo
     Ok(words)
 }
 
-fn part(start: u32, ty: u32) -> Option<Part> {
-    Some(Part { start, ty })
-}
-
 #[test]
-fn parts_lie_behind_one_another(rt: HostRuntime) -> Result<(), Fail> {
+fn parts_and_variables_lie_behind_one_another(rt: HostRuntime) -> Result<(), Fail> {
     let words = module_words(rt.alloc(), &INSTS)?;
     let module = check(rt.alloc(), words.as_slice())?;
     let of = ModuleFrame::new(rt.alloc(), &module)?;
-    assert_eq!(rt; of.part(15, 0), part(0, 3));
-    assert_eq!(rt; of.part(15, 1), part(1, 14));
-    assert_eq!(rt; of.part(15, 2), part(13, 12));
-    assert_eq!(rt; of.part(15, 3), None);
-    assert_eq!(rt; of.part(14, 2), part(8, 12));
+    assert_eq!(rt; of.part(15, 2), Some(Part { start: 13, ty: 12 }));
+    assert_eq!(rt; of.part(14, 2), Some(Part { start: 8, ty: 12 }));
     assert_eq!(rt; of.part(14, 3), None);
-    assert_eq!(rt; of.part(12, 3), part(3, 0));
-    assert_eq!(rt; of.part(12, 4), None);
-    assert_eq!(rt; of.part(3, 0), None);
-    Ok(())
-}
-
-#[test]
-fn results_and_variables_lie_behind_one_another(rt: HostRuntime) -> Result<(), Fail> {
-    let words = module_words(rt.alloc(), &INSTS)?;
-    let module = check(rt.alloc(), words.as_slice())?;
-    let of = ModuleFrame::new(rt.alloc(), &module)?;
-    assert_eq!(rt; of.count(), 23);
-    assert_eq!(rt; of.operand(17), 3);
     assert_eq!(rt; of.operand(18), 4);
-    assert_eq!(rt; of.frame_place(23), 21);
-    assert_eq!(rt; of.memory_place(16), 1);
-    assert_eq!(rt; of.memory_place(23), 18);
+    assert_eq!(rt; of.frame_place(of.count()), 21);
+    assert_eq!(rt; of.memory_place(of.count()), 18);
     Ok(())
 }

@@ -17,8 +17,8 @@ use spv_ops::result_word;
 
 /// The word of the result of a scalar operation, by the words of its operands. A truth value is the word 1 or 0.
 pub fn scalar_word(opcode: u32, words: &[u32]) -> u32
-    ensures { (read : List Value) (value : Value) → scalar_value opcode read ≡ Some value → AreWords read words.now
-        → words_of value ≡ Some (result ∷ []) }
+    ensures { (read : List Value) (value : Value) → scalar_value opcode read ≡ Some value
+        → AreWords read words.now → words_of value ≡ Some (result ∷ []) }
 {
     match u16::try_from(opcode) {
         Ok(op) => result_word(op, words),
@@ -30,8 +30,10 @@ pub fn scalar_word(opcode: u32, words: &[u32]) -> u32
 pub fn run_operation(of: &ModuleFrame<'_>, place: usize, frame: &mut [u32])
     requires gives { GivesSome (program_of of.now.insts) frame.old place }
     requires is { is_on_components (inst_at of.now.insts place).op ≡ true }
-    ensures { (held : Memory) (value : Value) → GivesAt (program_of of.now.insts) frame.old held place value
-        → frame.new ≡ written frame.old (frame_place (program_of of.now.insts) place) (in_frame (program_of of.now.insts) value) }
+    ensures { (held : Memory) (value : Value)
+        → GivesAt (program_of of.now.insts) frame.old held place value
+        → frame.new ≡ written frame.old (frame_place (program_of of.now.insts) place)
+        (in_frame (program_of of.now.insts) value) }
 {
     let _module = of.module();
     run_on(of, place, of.inst(place).words_from(2), frame);
@@ -41,8 +43,10 @@ fn run_on(of: &ModuleFrame<'_>, place: usize, reads: &[u32], frame: &mut [u32])
     requires gives { GivesSome (program_of of.now.insts) frame.old place }
     requires is { is_on_components (inst_at of.now.insts place).op ≡ true }
     requires reads { reads.now ≡ drop 2 (inst_at of.now.insts place).words }
-    ensures { (held : Memory) (value : Value) → GivesAt (program_of of.now.insts) frame.old held place value
-        → frame.new ≡ written frame.old (frame_place (program_of of.now.insts) place) (in_frame (program_of of.now.insts) value) }
+    ensures { (held : Memory) (value : Value)
+        → GivesAt (program_of of.now.insts) frame.old held place value
+        → frame.new ≡ written frame.old (frame_place (program_of of.now.insts) place)
+        (in_frame (program_of of.now.insts) value) }
 {
     let _module = of.module();
     let many = reads.len();
@@ -59,8 +63,10 @@ fn run_unary(of: &ModuleFrame<'_>, place: usize, operand: u32, frame: &mut [u32]
     requires gives { GivesSome (program_of of.now.insts) frame.old place }
     requires is { is_on_components (inst_at of.now.insts place).op ≡ true }
     requires reads { drop 2 (inst_at of.now.insts place).words ≡ operand ∷ [] }
-    ensures { (held : Memory) (value : Value) → GivesAt (program_of of.now.insts) frame.old held place value
-        → frame.new ≡ written frame.old (frame_place (program_of of.now.insts) place) (in_frame (program_of of.now.insts) value) }
+    ensures { (held : Memory) (value : Value)
+        → GivesAt (program_of of.now.insts) frame.old held place value
+        → frame.new ≡ written frame.old (frame_place (program_of of.now.insts) place)
+        (in_frame (program_of of.now.insts) value) }
 {
     let _module = of.module();
     let op = of.inst(place).op;
@@ -80,8 +86,10 @@ fn run_binary(of: &ModuleFrame<'_>, place: usize, left: u32, right: u32, frame: 
     requires gives { GivesSome (program_of of.now.insts) frame.old place }
     requires is { is_on_components (inst_at of.now.insts place).op ≡ true }
     requires reads { drop 2 (inst_at of.now.insts place).words ≡ left ∷ right ∷ [] }
-    ensures { (held : Memory) (value : Value) → GivesAt (program_of of.now.insts) frame.old held place value
-        → frame.new ≡ written frame.old (frame_place (program_of of.now.insts) place) (in_frame (program_of of.now.insts) value) }
+    ensures { (held : Memory) (value : Value)
+        → GivesAt (program_of of.now.insts) frame.old held place value
+        → frame.new ≡ written frame.old (frame_place (program_of of.now.insts) place)
+        (in_frame (program_of of.now.insts) value) }
 {
     let _module = of.module();
     write_binary(
@@ -105,8 +113,10 @@ fn run_select(
     requires gives { GivesSome (program_of of.now.insts) frame.old place }
     requires is { is_on_components (inst_at of.now.insts place).op ≡ true }
     requires reads { drop 2 (inst_at of.now.insts place).words ≡ condition ∷ first ∷ second ∷ [] }
-    ensures { (held : Memory) (value : Value) → GivesAt (program_of of.now.insts) frame.old held place value
-        → frame.new ≡ written frame.old (frame_place (program_of of.now.insts) place) (in_frame (program_of of.now.insts) value) }
+    ensures { (held : Memory) (value : Value)
+        → GivesAt (program_of of.now.insts) frame.old held place value
+        → frame.new ≡ written frame.old (frame_place (program_of of.now.insts) place)
+        (in_frame (program_of of.now.insts) value) }
 {
     let _module = of.module();
     let at = of.frame_place(place);

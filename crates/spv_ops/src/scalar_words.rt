@@ -19,7 +19,8 @@ pub fn unary_word(op: u16, operand: u32) -> u32
 /// The word of the result of an operation on two operands, by the operands' words: a truth value is the word 1 or 0.
 pub fn binary_word(op: u16, left: u32, right: u32) -> u32
     ensures is { result ≡ word_of_two op left right }
-    ensures gives { (first second value : Scalar) → scalar_result op (first ∷ second ∷ []) ≡ Some value
+    ensures gives { (first second value : Scalar)
+        → scalar_result op (first ∷ second ∷ []) ≡ Some value
         → left ≡ scalar_word first → right ≡ scalar_word second → result ≡ scalar_word value }
 {
     from_two(op, left, right)
@@ -28,7 +29,8 @@ pub fn binary_word(op: u16, left: u32, right: u32) -> u32
 /// The word of the result of an operation, by the words of its operands: a truth value is the word 1 or 0.
 pub fn result_word(op: u16, words: &[u32]) -> u32
     ensures is { result ≡ word_of_all op words.now }
-    ensures gives { (operands : List Scalar) (value : Scalar) → scalar_result op operands ≡ Some value
+    ensures gives { (operands : List Scalar) (value : Scalar)
+        → scalar_result op operands ≡ Some value
         → words.now ≡ map scalar_word operands → result ≡ scalar_word value }
 {
     from_all(op, words)
@@ -67,7 +69,8 @@ fn from_all(op: u16, words: &[u32]) -> u32
 }
 
 fn truth_of_two(op: u16, left: u32, right: u32) -> u32
-    ensures { result ≡ truth_by_words (comparison op) left right (truth_by_truths (truth_from_truths op) left right) }
+    ensures { result ≡ truth_by_words (comparison op) left right
+        (truth_by_truths (truth_from_truths op) left right) }
 {
     match comparison(op, left, right) {
         Some(truth) => u32::from(truth),

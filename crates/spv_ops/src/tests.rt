@@ -1,4 +1,4 @@
-use crate::{Scalar, apply, fold_one};
+use crate::{Scalar, apply, binary_word, fold_one, result_word, unary_word};
 use Scalar::{Bool, Word};
 use spirv_model::op;
 
@@ -169,4 +169,14 @@ fn operands_that_do_not_fit_have_no_result(rt: HostRuntime) {
             "operation {op} of {operands:?}"
         );
     }
+}
+
+#[test]
+fn words_of_results(rt: HostRuntime) {
+    assert_eq!(rt; unary_word(op::NOT, 0x0f0f_0f0f), 0xf0f0_f0f0);
+    assert_eq!(rt; unary_word(op::LOGICAL_NOT, 1), 0);
+    assert_eq!(rt; binary_word(op::I_SUB, 3, 5), 0xffff_fffe);
+    assert_eq!(rt; binary_word(op::S_LESS_THAN, MINUS_1, 1), 1);
+    assert_eq!(rt; binary_word(op::LOGICAL_EQUAL, 0, 0), 1);
+    assert_eq!(rt; result_word(op::SELECT, &[0, 5, 7]), 7);
 }

@@ -172,10 +172,17 @@ value_seen : (insts : List Inst) (intervals : List Interval) (place type id : �
 value_seen insts intervals place type id values typed None at seen of = cc
 value_seen insts intervals place type id values typed (Some at) is seen of = typed id at type is seen of
 
+-- what a phi takes: the value of an id of its type, which it pairs with the block before
+pub record PhiTakes (insts : List Inst) (values : Values) (before : ℕ) (inst : Inst) : Type 0 where
+  pub id : ℕ
+  pub pair : paired_with before (drop 2 inst.words) ≡ id ∷ []
+  pub typed : type_id (meaning insts id) ≡ Some (word_at 0 inst)
+  pub has : HasValue insts values id
+
 -- with the values with which its block was entered
-pub phi_does : (words : Words) (v : IsValidList words) (place : ℕ) → v.derivation.before + 1 ≤ place → place < v.derivation.after → (inst_at words.insts place).op == op.PHI ≡ true
-    → (before : ℕ) (values : Values) → Came words.insts v.derivation (label_behind 0 (take place words.insts)) before values → (memory : Memory) → Does words.insts values memory before (inst_at words.insts place)
-phi_does words v place low high is before values came memory =
+pub phi_takes : (words : Words) (v : IsValidList words) (place : ℕ) → v.derivation.before + 1 ≤ place → place < v.derivation.after → (inst_at words.insts place).op == op.PHI ≡ true
+    → (before : ℕ) (values : Values) → Came words.insts v.derivation (label_behind 0 (take place words.insts)) before values → PhiTakes words.insts values before (inst_at words.insts place)
+phi_takes words v place low high is before values came =
     let insts = words.insts in let intervals = intervals_of v.derivation in let inst = inst_at insts place in
     let within = function_within insts v.derivation place high in
     let facts = phi_facts intervals insts place (valid_seen words v place within) is in
@@ -185,6 +192,12 @@ phi_does words v place low high is before values came memory =
     (ap (λ (l : ℕ). is_among l (incoming_blocks inst)) (sym came.block) ∙ named) (both_pairs _ _ (incoming inst) facts.seen fit) in
     let end : unwrap_or (block_end_of insts before) place ≡ came.terminator = ap (λ (o : Option ℕ). unwrap_or o place) (block_end_is words v came.terminator before came.low came.high came.ends came.block) in
     let seen : is_defined_for intervals came.terminator (definition insts p.value) ≡ true = ap (λ (n : ℕ). is_defined_for intervals n (definition insts p.value)) (sym end) ∙ p.has.0 in
-    let h = value_seen insts intervals came.terminator (word_at 0 inst) p.value values came.typed (definition insts p.value) refl seen p.has.1 in
-    at_op (λ inst. paired_with before (drop 2 inst.words) ≡ p.value ∷ [] → type_id (meaning insts p.value) ≡ Some (word_at 0 inst) → Does insts values memory before inst) inst op.PHI is
-    (λ pair of. phi_runs insts values memory before p.value inst.words pair of h) p.is p.has.1
+    record { id = p.value; pair = p.is; typed = p.has.1; has = value_seen insts intervals came.terminator (word_at 0 inst) p.value values came.typed (definition insts p.value) refl seen p.has.1 }
+
+pub phi_does : (words : Words) (v : IsValidList words) (place : ℕ) → v.derivation.before + 1 ≤ place → place < v.derivation.after → (inst_at words.insts place).op == op.PHI ≡ true
+    → (before : ℕ) (values : Values) → Came words.insts v.derivation (label_behind 0 (take place words.insts)) before values → (memory : Memory) → Does words.insts values memory before (inst_at words.insts place)
+phi_does words v place low high is before values came memory =
+    let insts = words.insts in let inst = inst_at insts place in
+    let t = phi_takes words v place low high is before values came in
+    at_op (λ inst. paired_with before (drop 2 inst.words) ≡ t.id ∷ [] → type_id (meaning insts t.id) ≡ Some (word_at 0 inst) → Does insts values memory before inst) inst op.PHI is
+    (λ pair of. phi_runs insts values memory before t.id inst.words pair of t.has) t.pair t.typed

@@ -143,11 +143,11 @@ label_step insts d m r is typed does =
 -- ---- where a branch leads
 
 -- the OpLabel that stands where a block is due
-record LabelThere (insts : List Inst) (label place : ℕ) : Type 0 where
-  is : (inst_at insts place).op == LABEL ≡ true
-  own : label ≡ word_at 0 (inst_at insts place)
+pub record LabelThere (insts : List Inst) (label place : ℕ) : Type 0 where
+  pub is : (inst_at insts place).op == LABEL ≡ true
+  pub own : label ≡ word_at 0 (inst_at insts place)
 
-label_there : (insts : List Inst) (label place : ℕ) → IsDue insts (Some label) place → LabelThere insts label place
+pub label_there : (insts : List Inst) (label place : ℕ) → IsDue insts (Some label) place → LabelThere insts label place
 label_there insts label place due =
     let s = stands_at insts (only (Some label)) place due in
     let e = found_at insts place s.inst (front_at insts place s.inst s.more s.front).0 in

@@ -1,4 +1,4 @@
-use Rattle.std.proofs.Common.{◌≡◌, ℕ, ◌+◌, List, ◌∷◌, drop, get_or, refl, sym, subst}
+use Rattle.std.proofs.Common.{ℕ, ◌+◌, List, drop, get_or, refl, sym, subst}
 use Rattle.std.proofs.lemmas.List.{drop_more, drop_all}
 use Rattle.stage_model.specs.Program.{program_of}
 use Rattle.frame_model.specs.Frame.{OUTSIDE}

@@ -1,9 +1,8 @@
-use Rattle.std.proofs.Common.{◌≡◌, ◌≤◌, ℕ, List, length, replicate, ap, sym, ◌∙◌, arith}
-use Rattle.spirv_model.specs.declared.module.Inst.{Inst}
+use Rattle.std.proofs.Common.{◌≡◌, ℕ, replicate, ap, sym, ◌∙◌, arith}
 use Rattle.spirv_model.specs.Operands.{word_at}
 use Rattle.valid_model.specs.Definitions.{definition, inst_at}
 use Rattle.stage_model.specs.Program.{program_of}
-use Rattle.frame_model.specs.Frame.{frame_place, in_frame}
+use Rattle.frame_model.specs.Frame.{frame_place}
 use Rattle.frame_model.specs.Shown.{words_at}
 use Rattle.frame_model.specs.Written.{written}
 use Rattle.frame_model.proofs.AccessOperands.{load_stands, load_clears, load_copies}

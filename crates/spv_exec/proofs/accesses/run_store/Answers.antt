@@ -1,16 +1,10 @@
-use Rattle.std.proofs.Common.{◌≡◌, ◌≤◌, ℕ, List, length, get_or, Some, None, ap, sym, subst, ◌∙◌, arith}
-use Rattle.spirv_model.specs.declared.module.Inst.{Inst}
+use Rattle.std.proofs.Common.{◌≡◌, ℕ, ap, sym, ◌∙◌, arith}
 use Rattle.spirv_model.specs.Operands.{word_at}
 use Rattle.valid_model.specs.Definitions.{definition, inst_at}
 use Rattle.stage_model.specs.Program.{program_of}
-use Rattle.stage_model.specs.Start.{Memory}
-use Rattle.stage_model.specs.Effect.{Effect}
 use Rattle.typed_model.proofs.ValidTypes.{defined_within}
-use Rattle.frame_model.specs.Frame.{frame_words, frame_place, in_frame}
-use Rattle.frame_model.specs.Shown.{words_at, ShowsMemory}
-use Rattle.frame_model.specs.Written.{written}
+use Rattle.frame_model.specs.Frame.{frame_words, frame_place}
 use Rattle.frame_model.proofs.AccessOperands.{store_passes, store_writes}
-use Rattle.spv_exec.specs.Accesses.{memory_after}
 use Rattle.spv_exec.proofs.StoreWords.{stands_for_store, passed, same_place, store_at_word}
 use Rattle.spv_exec.proofs.accesses.run_store.Goals as goal
 

@@ -1,6 +1,6 @@
-use Rattle.std.proofs.Common.{◌≡◌, ◌≤◌, ℕ, List, ◌∷◌, [], length, ap, sym, ◌∙◌, arith}
+use Rattle.std.proofs.Common.{ℕ, ◌∷◌, [], ap, sym, ◌∙◌, arith}
 use Rattle.stage_model.specs.Program.{program_of}
-use Rattle.frame_model.specs.Frame.{frame_place, memory_place, in_frame}
+use Rattle.frame_model.specs.Frame.{frame_place, memory_place}
 use Rattle.frame_model.specs.Written.{written}
 use Rattle.frame_model.proofs.AccessOperands.{one_room, variable_word}
 use Rattle.frame_model.proofs.FrameLimits.{memory_few}

@@ -1,5 +1,4 @@
-use Rattle.std.proofs.Common.{◌≡◌, ℕ, refl, ap, ◌∙◌, arith, slice_index}
-use Rattle.spv_exec.proofs.GatheredWords.{Copied, gathered_more}
+use Rattle.spv_exec.proofs.GatheredWords.{gathered_more}
 use Rattle.spv_exec.proofs.composites.gather_words.Goals as goal
 
 pub loop-id-preserved : goal.loop-id-preserved

@@ -1,4 +1,3 @@
-use Rattle.std.proofs.Common.{ℕ, List}
 use Rattle.spv_exec.proofs.GatheredWords.{AreGathered}
 use Rattle.spv_exec.proofs.composites.gather_words.Given as goal
 

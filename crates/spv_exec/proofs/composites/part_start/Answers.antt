@@ -1,4 +1,4 @@
-use Rattle.std.proofs.Common.{◌≡◌, ℕ, ◌∷◌, refl, ap, sym, ◌∙◌, subst, arith, slice_index, drop, ◌+◌, Option, None, Some}
+use Rattle.std.proofs.Common.{◌≡◌, refl, subst, arith, slice_index, drop, ◌+◌, Option, Some}
 use Rattle.std.proofs.lemmas.List.{drop_more, drop_all}
 use Rattle.stage_model.specs.Value.{Layout}
 use Rattle.stage_model.specs.Program.{program_of}

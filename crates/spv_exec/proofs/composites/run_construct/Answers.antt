@@ -1,11 +1,11 @@
-use Rattle.std.proofs.Common.{◌≡◌, ℕ, ap, sym, ◌∙◌, subst, arith}
+use Rattle.std.proofs.Common.{ℕ, ap, sym, ◌∙◌, subst, arith}
 use Rattle.spirv_model.specs.declared.module.Inst.{Inst}
 use Rattle.stage_model.specs.Program.{program_of}
-use Rattle.frame_model.specs.Frame.{frame_place, frame_words, in_frame}
+use Rattle.frame_model.specs.Frame.{in_frame}
 use Rattle.frame_model.specs.Written.{written}
 use Rattle.frame_model.proofs.CompositeResults.{ConstructAt}
 use Rattle.frame_model.proofs.GivenComposites.{Room, given_room, construct_given}
-use Rattle.spv_exec.proofs.CompositeRuns.{Gathers, gathers}
+use Rattle.spv_exec.proofs.CompositeRuns.{gathers}
 use Rattle.spv_exec.proofs.SplitWords.{IsSplit, split_written}
 use Rattle.spv_exec.proofs.composites.run_construct.Goals as goal
 

@@ -1,8 +1,8 @@
-use Rattle.std.proofs.Common.{◌≡◌, ℕ, ◌+◌, refl, ap, sym, ◌∙◌, subst, arith}
+use Rattle.std.proofs.Common.{ℕ, ◌+◌, refl, ap, sym, ◌∙◌, subst, arith}
 use Rattle.spirv_model.specs.declared.module.Inst.{Inst}
 use Rattle.valid_model.specs.Definitions.{inst_at}
 use Rattle.stage_model.specs.Program.{program_of}
-use Rattle.frame_model.specs.Frame.{frame_place, frame_words, in_frame}
+use Rattle.frame_model.specs.Frame.{frame_words, in_frame}
 use Rattle.frame_model.specs.Written.{written}
 use Rattle.frame_model.proofs.CompositeResults.{ExtractAt}
 use Rattle.frame_model.proofs.GivenComposites.{Room, given_room, extract_given}

@@ -1,9 +1,9 @@
-use Rattle.std.proofs.Common.{◌≡◌, ℕ, ap, sym, ◌∙◌, replicate, subst, arith}
+use Rattle.std.proofs.Common.{ℕ, ap, sym, ◌∙◌, replicate, arith}
 use Rattle.stage_model.specs.Program.{program_of}
-use Rattle.frame_model.specs.Frame.{frame_place, frame_words, in_frame}
+use Rattle.frame_model.specs.Frame.{in_frame}
 use Rattle.frame_model.specs.Written.{written}
 use Rattle.frame_model.proofs.GivenComposites.{Room, given_room, undef_given}
-use Rattle.spv_exec.proofs.SplitWords.{IsSplit, split_written, split_lengths}
+use Rattle.spv_exec.proofs.SplitWords.{split_written, split_lengths}
 use Rattle.spv_exec.proofs.composites.run_undef.Goals as goal
 
 pub split_at_mut-to-requires : goal.split_at_mut-to-requires

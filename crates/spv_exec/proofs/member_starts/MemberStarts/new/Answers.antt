@@ -3,7 +3,8 @@ use Rattle.limits.specs.declared.TheConstants.{MODULE_WORDS}
 use Rattle.spirv_model.specs.declared.module.Inst.{Inst}
 use Rattle.stage_model.specs.Program.{program_of}
 use Rattle.spv_exec.specs.ModuleFrames.{AddsStarts, members_in}
-use Rattle.spv_exec.proofs.StartsTo.{StartsTo, starts_first, starts_next, starts_all, starts_room, inst_room, there}
+use Rattle.spv_exec.proofs.StartsTo.{StartsTo, starts_first, starts_next, starts_all, starts_room, inst_room}
+use Rattle.spv_exec.proofs.PlacesTo.{there}
 use Rattle.spv_exec.proofs.member_starts.MemberStarts.new.Goals as goal
 
 pub loop-inst-init : goal.loop-inst-init
