@@ -1,3 +1,3 @@
-pub mod FlatModules
 pub mod Outcomes
 pub mod Streams
+pub mod ValidForms

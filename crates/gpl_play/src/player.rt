@@ -3,11 +3,13 @@ ghost use Rattle.std.specs.Option.{option_map};
 ghost use Rattle.std.specs.Io.KnownBytes.{IsAtEnd, Keeps};
 ghost use Rattle.basics.specs.Count.{Rose};
 ghost use Rattle.draw_model.specs.Draw.{HasLimitedSides};
-ghost use Rattle.trace_model.specs.Meaning.{meaning};
+ghost use Rattle.check_model.specs.Validity.{IsValidList};
+ghost use Rattle.stage_model.specs.Stage.{ended_of, stage};
+ghost use Rattle.trace_model.specs.Meaning.{meaning, nothing_given};
 ghost use Rattle.trace_model.specs.Output.{due_text};
 ghost use Rattle.trace_model.specs.declared.trace.TraceFault.{TraceFault};
 ghost use Rattle.trace_model.specs.declared.trace.Cause.TheVariants.{NotYet};
-ghost use Rattle.gpl_play.specs.Modules.{HasFlatModules};
+ghost use Rattle.gpl_play.specs.Modules.{HasValidModules};
 ghost use Rattle.gpl_play.specs.Reads.{ReadsSome};
 ghost use Rattle.gpl_play.specs.Runs.{IsPlay, NoFault, WritesDue, WritesDueFront, IsNoTrace, IsRefusedIfNoTrace, IsPlayedIfTrace};
 
@@ -17,7 +19,12 @@ use crate::status::{DONE, NO_MEMORY, READ_FAILED, REFUSED, USAGE, WRITE_FAILED};
 use crate::write::write_all;
 use gpl_edge::{Gate, Sink, Source};
 use int_device::draw;
-use spv_exec::run_flat;
+use limits::{COMPONENTS, DESCRIPTOR_BINDINGS, DESCRIPTOR_SETS, ENTRIES, LOCATIONS, PUSH_WORDS};
+use spirv_model::{Items, Words};
+use spv_check::valid_module;
+use spv_exec::run_stage;
+use stage_model::{Ended, Inputs};
+use state_model::{Buffers, SpecValues};
 use std::alloc::{AllocError, Global};
 use std::sync::Wait;
 use std::thread::Threads;
@@ -100,7 +107,7 @@ pub fn run<R: Threads + Wait + Sync, S: Source, K: Sink, G: Gate>(
         ) => return ended(NO_MEMORY),
         Err(fault) => return refused(fault),
     };
-    let Ok(text) = play(alloc, &trace) else {
+    let Ok(text) = play(alloc, trace) else {
         return ended(NO_MEMORY);
     };
     match write_all(sink, text.as_slice()) {
@@ -143,14 +150,47 @@ fn refused(fault: TraceFault) -> Outcome
 }
 
 /// The text that is due to a trace.
-fn play(alloc: Global, trace: &Trace) -> Result<Vec<u8>, AllocError>
-    requires means { IsSome (meaning trace.now) }
-    requires target { HasLimitedSides trace.now.target }
-    requires modules { HasFlatModules trace.now }
-    ensures { IfOk result (λ text. due_text trace.now ≡ Some text.items) }
+fn play(alloc: Global, trace: Trace) -> Result<Vec<u8>, AllocError>
+    requires means { IsSome (meaning trace) }
+    requires target { HasLimitedSides trace.target }
+    requires modules { HasValidModules trace }
+    ensures { IfOk result (λ text. due_text trace ≡ Some text.items) }
 {
-    let vertex = run_flat(alloc, trace.vertex.insts.as_slice())?;
-    let fragment = run_flat(alloc, trace.fragment.insts.as_slice())?;
-    let words = draw(alloc, &vertex, &fragment, &trace.target)?;
-    print_target(alloc, &trace.target, words.as_slice())
+    let Trace {
+        vertex,
+        fragment,
+        target,
+    } = trace;
+    let vertex = outcome(alloc, vertex)?;
+    let fragment = outcome(alloc, fragment)?;
+    let words = draw(alloc, &vertex, &fragment, &target)?;
+    print_target(alloc, &target, words.as_slice())
+}
+
+/// What an invocation of a module leaves that is given nothing.
+fn outcome(alloc: Global, words: Words) -> Result<Ended, AllocError>
+    requires { IsValidList words }
+    ensures { IfOk result (λ ended. option_map ended_of (stage words.insts nothing_given) ≡ Some ended) }
+{
+    let module = valid_module(alloc, words)?;
+    let entries = SpecValues {
+        entries: [None; ENTRIES],
+    };
+    let list = Items::new(alloc);
+    run_stage(alloc, &module, &entries, &nothing(), &Buffers { list })
+}
+
+/// Zeros for inputs, and nothing bound.
+fn nothing() -> Inputs
+    ensures { result ≡ nothing_given.inputs }
+{
+    Inputs {
+        slots: [[0; COMPONENTS]; LOCATIONS],
+        vertex_index: 0,
+        instance_index: 0,
+        frag_coord: [0; COMPONENTS],
+        front: false,
+        push: [0; PUSH_WORDS as usize],
+        uniforms: [[None; DESCRIPTOR_BINDINGS]; DESCRIPTOR_SETS],
+    }
 }

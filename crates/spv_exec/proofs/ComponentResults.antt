@@ -16,22 +16,20 @@ use Rattle.scalar_model.specs.Scalars.{scalar_result}
 use Rattle.valid_model.specs.Definitions.{definition, inst_at}
 use Rattle.check_model.specs.Validity.{IsValidList}
 use Rattle.stage_model.specs.Value.{Value, Truth, Word, Composite, Pointer, Outside, word_of_truth}
-use Rattle.stage_model.specs.Program.{Program, program_of}
+use Rattle.stage_model.specs.Program.{program_of}
 use Rattle.stage_model.specs.Start.{Memory, scalar_of, of_scalar, all_scalars, scalar_value}
 use Rattle.stage_model.specs.Operations.{operation}
 use Rattle.typed_model.proofs.TypeLayouts.{same}
-use Rattle.typed_model.proofs.PlainRuns.{no_reduction}
 use Rattle.spv_ops.specs.ScalarWords.{scalar_word, word_of_one, word_of_two}
 use Rattle.spv_ops.proofs.ScalarWords.{is_word_of_one, is_word_of_two}
 use Rattle.frame_model.specs.Frame.{frame_words, frame_place, in_frame}
 use Rattle.frame_model.specs.Shown.{words_at}
 use Rattle.frame_model.specs.Written.{GivesAt, written}
 use Rattle.frame_model.specs.Componentwise.{on_both, is_true_word, chosen_words}
-use Rattle.frame_model.proofs.FrameWrites.{OperandWords}
 use Rattle.frame_model.proofs.WrittenWords.{words_at_index}
-use Rattle.frame_model.proofs.ScalarWords.{value_word, word_first, ComputesOne, ComputesTwo, unary_words, BinaryWords, binary_words, any_result_words, all_result_words, AreAlike, SelectWords, select_words}
+use Rattle.frame_model.proofs.ScalarWords.{value_word, word_first, ComputesOne, ComputesTwo, unary_words, binary_words, any_result_words, all_result_words, select_words}
 use Rattle.frame_model.proofs.OperandReads.{Operand, AreOperands, IsOperation, Operates, operates, scalar_operation, any_operation, all_operation}
-use Rattle.frame_model.proofs.SelectReads.{Selects, selects}
+use Rattle.frame_model.proofs.SelectReads.{selects}
 use Rattle.spv_exec.proofs.ComponentLoops.{length_both}
 use Rattle.spv_exec.specs.Opcodes.{is_scalar_class, is_on_components}
 

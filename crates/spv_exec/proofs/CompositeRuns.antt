@@ -120,18 +120,22 @@ gathers insts frame front back place value inst x r at ids ids_are at_is s =
 
 -- ---- OpVectorShuffle
 
--- the words that literals pick in front of the result
-pub record Picks (front back : List ℕ) (of : Vectors) (literals words : List ℕ) : Type 0 where
-  pub fits : length literals ≤ length back
-  pub are : map (picked_of front of) literals ≡ words
+-- there is room for a word for each literal
+pub picks_room : (insts : List Inst) (frame front back : List ℕ) (place : ℕ) (value : Value) (inst : Inst) → ShuffleAt insts frame place value inst → Room insts frame place value → (at : ℕ) (literals : List ℕ) → literals ≡ words_from 4 inst
+    → at ≡ frame_place (program_of insts) place → IsSplit frame front back at → length literals ≤ length back
+picks_room insts frame front back place value inst x r at literals literals_are at_is s =
+    let l = split_lengths frame front back at s in let b = l.1 in
+    let size = r.size in let room = r.fits in
+    let e : length (in_frame (program_of insts) value) ≡ length (words_from 4 inst) = ap length x.are ∙ length-map (words_from 4 inst) _ in let k = ap length literals_are in
+    omega (arith, e, k, size, room, b, at_is)
 
+-- the literals pick the words of the result in front of it
 pub picks : (insts : List Inst) (frame front back : List ℕ) (place : ℕ) (value : Value) (inst : Inst) → ShuffleAt insts frame place value inst → Room insts frame place value → (first second at : ℕ) (of : Vectors) (literals : List ℕ)
     → first ≡ word_at 2 inst → second ≡ word_at 3 inst → literals ≡ words_from 4 inst → at ≡ frame_place (program_of insts) place → IsSplit frame front back at → Asked insts first of.first → Counted insts first of.count → Asked insts second of.second
-    → Picks front back of literals (in_frame (program_of insts) value)
+    → map (picked_of front of) literals ≡ in_frame (program_of insts) value
 picks insts frame front back place value inst x r first second at of literals first_is second_is literals_are at_is s first_asked count_asked second_asked =
     let program = program_of insts in
-    let l = split_lengths frame front back at s in let b = l.1 in
-    let size = r.size in let room = r.fits in let before = x.first_before in let also = x.second_before in
+    let before = x.first_before in let also = x.second_before in
     let first_there = ap (definition insts) first_is ∙ x.first_defined in let second_there = ap (definition insts) second_is ∙ x.second_defined in
     let place_is = first_asked.place x.first first_there in let count_is = count_asked.words x.first first_there in let other_is = second_asked.place x.second second_there in
     let count : ℕ = frame_words program (inst_at insts x.second) in
@@ -141,10 +145,5 @@ picks insts frame front back place value inst x r first second at of literals fi
     let vectors : words_at frame of.first of.count ++ words_at frame of.second count ≡ words_at frame (frame_place program x.first) (frame_words program (inst_at insts x.first)) ++ words_at frame (frame_place program x.second) count =
     ap (λ (n : ℕ). words_at frame n of.count ++ words_at frame of.second count) place_is ∙ (ap (λ (n : ℕ). words_at frame (frame_place program x.first) n ++ words_at frame of.second count) count_is
     ∙ ap (λ (n : ℕ). words_at frame (frame_place program x.first) (frame_words program (inst_at insts x.first)) ++ words_at frame n count) other_is) in
-    let are : map (picked_of front of) literals ≡ in_frame program value =
     ap (λ (l : List ℕ). map (picked_of l of) literals) s.front_is ∙ (front_picks ∙ (ap (λ (l : List ℕ). map (picked l) literals) vectors
-    ∙ (ap (map (picked (words_at frame (frame_place program x.first) (frame_words program (inst_at insts x.first)) ++ words_at frame (frame_place program x.second) count))) literals_are ∙ sym x.are))) in
-    record {
-      fits = (let e = ap length are in let m = length-map literals (picked_of front of) in omega (arith, e, m, size, room, b, at_is));
-      are = are;
-    }
+    ∙ (ap (map (picked (words_at frame (frame_place program x.first) (frame_words program (inst_at insts x.first)) ++ words_at frame (frame_place program x.second) count))) literals_are ∙ sym x.are)))

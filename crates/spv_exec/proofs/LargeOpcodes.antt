@@ -1,11 +1,11 @@
 -- No scalar operation has an opcode of more than 16 bits.
-use Rattle.std.proofs.Common.{◌≡◌, ℕ, ◌<◌, ◌≤◌, ◌==◌, nat_lt, Bool, true, false, if◌then◌else◌, List, [], ◌∷◌, Option, None, Some, refl, ap, ◌∙◌, arith}
+use Rattle.std.proofs.Common.{◌≡◌, ℕ, ◌≤◌, ◌==◌, nat_lt, Bool, true, false, if◌then◌else◌, List, [], ◌∷◌, Option, None, refl, ap, ◌∙◌, arith}
 use Rattle.std.specs.Option.{option_map, option_or}
 use Rattle.std.proofs.lemmas.Bool.Decides.{nat_tests}
 use Rattle.spirv_model.specs.declared.op.TheConstants.{BITCAST, S_NEGATE, I_ADD, I_SUB, I_MUL, U_DIV, S_DIV, U_MOD, S_REM, S_MOD, LOGICAL_EQUAL, LOGICAL_NOT_EQUAL, LOGICAL_OR, LOGICAL_AND, LOGICAL_NOT, SELECT, I_EQUAL, I_NOT_EQUAL, U_GREATER_THAN, S_GREATER_THAN, U_GREATER_THAN_EQUAL, S_GREATER_THAN_EQUAL, U_LESS_THAN, S_LESS_THAN, U_LESS_THAN_EQUAL, S_LESS_THAN_EQUAL, SHIFT_RIGHT_LOGICAL, SHIFT_RIGHT_ARITHMETIC, SHIFT_LEFT_LOGICAL, BITWISE_OR, BITWISE_XOR, BITWISE_AND, NOT}
 use Rattle.scalar_model.specs.declared.scalar_value.Scalar.{Scalar}
 use Rattle.scalar_model.specs.declared.scalar_value.Scalar.TheVariants.{Bool as Truth, Word}
-use Rattle.scalar_model.specs.Scalars.{word_from_word, arithmetic, bitwise, word_from_words, comparison, truth_from_truth, truth_from_truths, scalar_result}
+use Rattle.scalar_model.specs.Scalars.{word_from_word, arithmetic, bitwise, comparison, truth_from_truth, truth_from_truths, scalar_result}
 
 differ : (a b : ℕ) → 65536 ≤ a → nat_lt b 65536 ≡ true → a == b ≡ false
 differ a b large small = grind (arith, nat_tests)

@@ -1,10 +1,10 @@
 -- The word of the result of a scalar operation on values, by their words.
-use Rattle.std.proofs.Common.{◌≡◌, ℕ, ◌≤◌, Bool, true, false, List, [], ◌∷◌, map, Option, None, Some, refl, ap, sym, ◌∙◌, subst}
+use Rattle.std.proofs.Common.{◌≡◌, ℕ, ◌≤◌, true, false, List, [], ◌∷◌, map, Option, None, Some, refl, ap, sym, ◌∙◌}
 use Rattle.std.specs.Option.{option_map, option_and_then}
 use Rattle.scalar_model.specs.declared.scalar_value.Scalar.{Scalar}
 use Rattle.scalar_model.specs.declared.scalar_value.Scalar.TheVariants.{Bool as TruthOf, Word as WordOf}
 use Rattle.scalar_model.specs.Scalars.{scalar_result}
-use Rattle.stage_model.specs.Value.{Value, Truth, Word, Composite, Pointer, Outside, word_of_truth, words_of}
+use Rattle.stage_model.specs.Value.{Value, Truth, Word, Composite, Pointer, Outside, words_of}
 use Rattle.stage_model.specs.Start.{scalar_of, of_scalar, all_scalars, scalar_value}
 use Rattle.spv_ops.specs.ScalarWords.{scalar_word}
 use Rattle.spv_exec.specs.ScalarWords.{AreWords}

@@ -85,7 +85,7 @@ has_jumped to state true false = on (state.back_edges + 1)
 has_jumped to state false last = on state.back_edges
 
 -- at a label no phi is due
-no_phi_there : (words : Words) (place : ℕ) (incoming : List ℕ) (values : Values) (before : ℕ) → (inst_at words.insts place).op == op.LABEL ≡ true → ShowsTaken (program_of words.insts) incoming values before place
+pub no_phi_there : (words : Words) (place : ℕ) (incoming : List ℕ) (values : Values) (before : ℕ) → (inst_at words.insts place).op == op.LABEL ≡ true → ShowsTaken (program_of words.insts) incoming values before place
 unfolding program_of
 no_phi_there words place incoming values before is other value low within phis takes =
     absurd (clash ((inst_at words.insts place).op == op.LABEL) is (another (λ opcode. opcode == op.PHI) op.LABEL refl (inst_at words.insts place).op (phis place (omega arith) low)))

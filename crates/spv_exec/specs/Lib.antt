@@ -4,9 +4,6 @@ pub mod Chains
 pub mod Branches
 pub mod Composites
 pub mod FirstFrames
-pub mod FlatMachine
-pub mod FlatStage
-pub mod FlatValue
 pub mod ModuleFrames
 pub mod Opcodes
 pub mod Origins
@@ -14,7 +11,5 @@ pub mod Outputs
 pub mod Phis
 pub mod PreparedFor
 pub mod ScalarWords
-pub mod Steps
 pub mod Variables
-pub mod Views
 pub mod Walks

@@ -2,7 +2,6 @@
 #![tactic(auto)]
 
 mod accesses;
-mod block;
 mod block_offsets;
 mod branches;
 mod components;
@@ -16,14 +15,13 @@ mod origins;
 mod outputs;
 mod phis;
 mod places;
+mod prepared;
 mod results;
-mod run;
 mod stand;
-mod values;
 mod variables;
 mod walk;
 
-pub use run::run_flat;
+pub use prepared::{Prepared, run_stage};
 pub use spirv_model::{Inst, Items};
 pub use stage_model::{Ended, Kind};
 pub use std::alloc::AllocError as Memory;
@@ -31,4 +29,4 @@ pub use std::alloc::AllocError as Memory;
 #[cfg(test)]
 mod module_frame_tests;
 #[cfg(test)]
-mod tests;
+mod prepared_tests;

@@ -1,6 +1,6 @@
 //! Where the words of a variable come from when a run begins.
 ghost use Rattle.std.specs.Prelude.{◌≡◌};
-ghost use Rattle.spirv_model.specs.declared.decoration.TheConstants.{ARRAY_STRIDE, BUILT_IN, LOCATION};
+ghost use Rattle.spirv_model.specs.declared.decoration.TheConstants.{ARRAY_STRIDE, BUILT_IN, LOCATION, SPEC_ID};
 ghost use Rattle.stage_model.specs.Program.{program_of};
 ghost use Rattle.std.specs.Prelude.{Some, slice_index, slice_index_or, []};
 ghost use Rattle.stage_model.specs.Start as start;
@@ -48,6 +48,14 @@ pub fn stride(of: &ModuleFrame<'_>, id: u32) -> Option<u32>
     ensures { result ≡ (program_of of.now.insts).decoration id ARRAY_STRIDE }
 {
     of.module().ids().stride(id)
+}
+
+/// The number that a specialization constant is set by.
+#[tactic(auto, unfolding(stage_model::specs::Program::program_of))]
+pub fn spec_id(of: &ModuleFrame<'_>, id: u32) -> Option<u32>
+    ensures { result ≡ (program_of of.now.insts).decoration id SPEC_ID }
+{
+    of.module().ids().spec_id(id)
 }
 
 /// The offset of a structure's member, in bytes.

@@ -1,7 +1,7 @@
 -- What a trace means: the target's pixels after its draw, by the modules as the trace gives them.
 use Rattle.std.specs.Prelude.{ℕ, false, List, [], replicate, Option, None}
 use Rattle.std.specs.Option.{option_map}
-use Rattle.limits.specs.declared.TheConstants.{LOCATIONS, COMPONENTS, PUSH_WORDS, DESCRIPTOR_SETS, DESCRIPTOR_BINDINGS}
+use Rattle.limits.specs.declared.TheConstants.{ENTRIES, LOCATIONS, COMPONENTS, PUSH_WORDS, DESCRIPTOR_SETS, DESCRIPTOR_BINDINGS}
 use Rattle.stage_model.specs.Stage.{Given, stage, ended_of}
 use Rattle.draw_model.specs.Draw.{image}
 use Rattle.trace_model.specs.declared.trace.Trace.{Trace}
@@ -10,7 +10,7 @@ use Rattle.trace_model.specs.Text.{◌>>=◌}
 -- no specialization, zeros for inputs, and no buffers: the two modules that are read so far take nothing
 unfoldable pub nothing_given : Given
 nothing_given = record {
-  entries = record { entries = [] };
+  entries = record { entries = replicate ENTRIES None };
   inputs = record {
     slots = replicate LOCATIONS (replicate COMPONENTS 0);
     vertex_index = 0;

@@ -26,7 +26,7 @@ use Rattle.typed_model.proofs.ValidFunctions.{front_of, valid_start}
 level_test : (is_module_level op.LABEL || (op.LABEL == op.FUNCTION)) ≡ false
 level_test = ap (λ (b : Bool). b || false) no_level_label
 
-starts_with_label : (insts : List Inst) (d : Derives insts) → (inst_at insts (d.before + 1)).op == op.LABEL ≡ true
+pub starts_with_label : (insts : List Inst) (d : Derives insts) → (inst_at insts (d.before + 1)).op == op.LABEL ≡ true
 starts_with_label insts d = let s = function_starts insts d in ap (λ (i : Inst). i.op == op.LABEL) (found_at insts (d.before + 1) s.inst s.at) ∙ s.is
 
 -- the function's first block has the first label of the list

@@ -4,7 +4,7 @@ use Rattle.std.proofs.KnownBytes.{Keeps-refl}
 use Rattle.trace_model.specs.Form.{trace_of}
 use Rattle.trace_model.proofs.Targets.{trace-has_limited_sides}
 use Rattle.gpl_play.specs.Reads.{Reads}
-use Rattle.gpl_play.proofs.FlatModules.{trace-is_flat}
+use Rattle.gpl_play.proofs.ValidForms.{trace-is_valid}
 use Rattle.gpl_play.proofs.Outcomes.{writes_due, writes_due_front, left_one, right_one, is_trace}
 use Rattle.gpl_play.proofs.player.run.Goals as goal
 
@@ -15,7 +15,7 @@ play-requires-clause-target g c =
 
 pub play-requires-clause-modules : goal.play-requires-clause-modules
 play-requires-clause-modules g c =
-    trace-is_flat c.as_slice.result.now c.in-Ok-read_trace.trace c.in-Ok-read_trace.ensures.exact
+    trace-is_valid c.as_slice.result.now c.in-Ok-read_trace.trace c.in-Ok-read_trace.ensures.exact
 
 -- memory ran out behind the trace
 pub returns-in_default-clause-refuses : goal.returns-in_default-clause-refuses

@@ -5,7 +5,7 @@ use Rattle.frame_model.specs.Frame.{in_frame}
 use Rattle.frame_model.specs.Written.{written}
 use Rattle.frame_model.proofs.CompositeResults.{ShuffleAt}
 use Rattle.frame_model.proofs.GivenComposites.{Room, given_room, shuffle_given}
-use Rattle.spv_exec.proofs.CompositeRuns.{picks}
+use Rattle.spv_exec.proofs.CompositeRuns.{picks_room, picks}
 use Rattle.spv_exec.proofs.SplitWords.{IsSplit, split_written}
 use Rattle.spv_exec.proofs.composites.run_shuffle.Goals as goal
 
@@ -22,10 +22,8 @@ pick_words-requires c =
     let x = subst (λ (i : Inst). ShuffleAt of.insts c.args.frame.now c.args.place some.value i) (sym c.inst-inst.ensures) (shuffle_given of v c.args.frame.now some.held c.args.place some.value some.gives c.requires.is) in
     let r : Room of.insts c.args.frame.now c.args.place some.value = given_room of v c.args.frame.now some.held c.args.place some.value some.gives in
     let fits = r.fits in let at = c.frame_place.ensures in
-    (picks of.insts c.args.frame.now c.split_at_mut-front.result.0.now c.split_at_mut-front.result.1.now c.args.place some.value c.inst-inst.result.now x r c.word-first.result c.word-second.result c.frame_place.result
-    (record { first = c.operand.result; count = c.operand_words.result; second = c.operand-2.result }) c.words_from.result.now c.word-first.ensures c.word-second.ensures c.words_from.ensures c.frame_place.ensures
+    picks_room of.insts c.args.frame.now c.split_at_mut-front.result.0.now c.split_at_mut-front.result.1.now c.args.place some.value c.inst-inst.result.now x r c.frame_place.result c.words_from.result.now c.words_from.ensures c.frame_place.ensures
     (record { front_is = c.split_at_mut-front.ensures.front; back_is = c.split_at_mut-front.ensures.back; within = omega (arith, fits, at) })
-    (record { place = c.operand.ensures }) (record { words = c.operand_words.ensures.there }) (record { place = c.operand-2.ensures })).fits
 
 pub returns : goal.returns
 returns c = λ held value g.
@@ -39,5 +37,5 @@ returns c = λ held value g.
     (record { first = c.operand.result; count = c.operand_words.result; second = c.operand-2.result }) c.words_from.result.now c.word-first.ensures c.word-second.ensures c.words_from.ensures c.frame_place.ensures s
     (record { place = c.operand.ensures }) (record { words = c.operand_words.ensures.there }) (record { place = c.operand-2.ensures }) in
     split_written c.args.frame.now c.split_at_mut-front.result.0.now c.split_at_mut-front.result.1.now c.pick_words.new.to c.frame_place.result (in_frame (program_of of.insts) value) s
-    (c.pick_words.ensures ∙ ap (written c.split_at_mut-front.result.1.now 0) e.are)
+    (c.pick_words.ensures ∙ ap (written c.split_at_mut-front.result.1.now 0) e)
     ∙ ap (λ (n : ℕ). written c.args.frame.now n (in_frame (program_of of.insts) value)) c.frame_place.ensures

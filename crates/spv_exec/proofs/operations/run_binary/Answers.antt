@@ -1,11 +1,10 @@
-use Rattle.std.proofs.Common.{◌≡◌, ℕ, ◌<◌, ◌≤◌, List, length, sym, ap, ◌∙◌, arith}
+use Rattle.std.proofs.Common.{ℕ, List, sym, ap, ◌∙◌, arith}
 use Rattle.spirv_model.specs.declared.module.Inst.{Inst}
 use Rattle.valid_model.specs.Definitions.{inst_at}
-use Rattle.stage_model.specs.Program.{program_of}
 use Rattle.spv_ops.specs.ScalarWords.{word_of_two}
 use Rattle.frame_model.specs.Shown.{words_at}
 use Rattle.frame_model.specs.Componentwise.{on_both}
-use Rattle.spv_exec.proofs.ComponentResults.{Room, room_here, BinaryRun, binary_run, start_within, start_apart, start_words, start_room, same_written}
+use Rattle.spv_exec.proofs.ComponentResults.{room_here, binary_run, start_within, start_apart, start_words, start_room, same_written}
 use Rattle.spv_exec.proofs.operations.run_binary.Goals as goal
 
 pub inst-requires : goal.inst-requires

@@ -1,6 +1,5 @@
-use Rattle.std.proofs.Common.{◌≡◌, ℕ, ◌<◌, ◌≤◌, List, length, drop, sym, ap, ◌∙◌, arith}
+use Rattle.std.proofs.Common.{◌≡◌, ℕ, ◌≤◌, List, length, drop, sym, ap, ◌∙◌, arith}
 use Rattle.valid_model.specs.Definitions.{inst_at}
-use Rattle.spirv_model.specs.declared.module.Words.{Words}
 use Rattle.spv_exec.proofs.ComponentResults.{few_operands, list_three}
 use Rattle.spv_exec.proofs.operations.run_on.Goals as goal
 

@@ -1,5 +1,4 @@
-use Rattle.std.proofs.Common.{◌<◌}
-use Rattle.spv_exec.proofs.ComponentResults.{Room, room_here}
+use Rattle.spv_exec.proofs.ComponentResults.{room_here}
 use Rattle.spv_exec.proofs.operations.run_operation.Goals as goal
 
 pub inst-requires : goal.inst-requires

@@ -1,10 +1,10 @@
-use Rattle.std.proofs.Common.{◌≡◌, ℕ, ◌+◌, ◌<◌, ◌≤◌, if◌then◌else◌, List, length, slice_index, sym, ap, ◌∙◌, arith}
+use Rattle.std.proofs.Common.{◌≡◌, ℕ, if◌then◌else◌, List, slice_index, sym, ap, ◌∙◌, arith}
 use Rattle.stage_model.specs.Program.{program_of}
 use Rattle.valid_model.specs.Definitions.{inst_at}
 use Rattle.frame_model.specs.Frame.{frame_words}
 use Rattle.frame_model.specs.Shown.{words_at}
 use Rattle.frame_model.specs.Componentwise.{is_true_word, chosen_words}
-use Rattle.spv_exec.proofs.ComponentResults.{Room, room_here, HasWords, SelectRun, select_run, start_within, start_apart, start_words, start_room, same_written, first_word}
+use Rattle.spv_exec.proofs.ComponentResults.{room_here, select_run, start_within, start_apart, start_words, start_room, same_written, first_word}
 use Rattle.spv_exec.proofs.operations.run_select.Goals as goal
 
 pub frame_place-at-requires : goal.frame_place-at-requires

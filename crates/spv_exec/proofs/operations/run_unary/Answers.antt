@@ -1,14 +1,13 @@
-use Rattle.std.proofs.Common.{◌≡◌, ℕ, ◌+◌, ◌<◌, ◌≤◌, Bool, false, ◌==◌, List, [], ◌∷◌, length, map, sym, ap, ◌∙◌, subst, arith, rules, tests}
+use Rattle.std.proofs.Common.{◌≡◌, ℕ, false, ◌==◌, List, [], ◌∷◌, map, sym, ap, ◌∙◌, arith, rules, tests}
 use Rattle.std.specs.List.{list_any, list_all}
 use Rattle.spirv_model.specs.declared.module.Inst.{Inst}
 use Rattle.spirv_model.specs.declared.op.TheConstants as op
 use Rattle.valid_model.specs.Definitions.{inst_at}
 use Rattle.stage_model.specs.Value.{word_of_truth}
-use Rattle.stage_model.specs.Program.{program_of}
 use Rattle.spv_ops.specs.ScalarWords.{word_of_one}
 use Rattle.frame_model.specs.Shown.{words_at}
 use Rattle.frame_model.specs.Componentwise.{is_true_word}
-use Rattle.spv_exec.proofs.ComponentResults.{Room, room_here, HasWords, UnaryRun, unary_run, ReduceRun, any_run, all_run, start_within, start_apart, start_words, start_room, same_written}
+use Rattle.spv_exec.proofs.ComponentResults.{room_here, unary_run, any_run, all_run, start_within, start_apart, start_words, start_room, same_written}
 use Rattle.spv_exec.proofs.operations.run_unary.Goals as goal
 
 pub inst-requires : goal.inst-requires

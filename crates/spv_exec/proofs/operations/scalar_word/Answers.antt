@@ -1,4 +1,4 @@
-use Rattle.std.proofs.Common.{◌≡◌, ℕ, ◌<◌, ◌≤◌, List, [], ◌∷◌, Some, sym, ap, ◌∙◌, arith}
+use Rattle.std.proofs.Common.{ℕ, ◌<◌, ◌≤◌, [], ◌∷◌, Some, sym, ap, ◌∙◌, arith}
 use Rattle.scalar_model.specs.Scalars.{scalar_result}
 use Rattle.spv_exec.proofs.ScalarResults.{scalars_of, none_large}
 use Rattle.spv_exec.proofs.operations.scalar_word.Goals as goal

@@ -1,4 +1,4 @@
-use Rattle.std.proofs.Common.{◌<◌, ◌≤◌, length, sym, ◌∙◌, arith}
+use Rattle.std.proofs.Common.{◌<◌, length, sym, arith}
 use Rattle.typed_model.proofs.ValidTypes.{defined_within}
 use Rattle.spv_exec.proofs.operations.span.Goals as goal
 
