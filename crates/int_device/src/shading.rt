@@ -10,7 +10,6 @@ ghost use Rattle.int_device.specs.Draws.{Draws, Shade, IsShading, fragments_at, 
 
 use crate::canvas::Canvas;
 use crate::fragment::Fragment;
-use spv_exec::Prepared;
 use crate::primitive::Primitive;
 use crate::sample_rules::{SampleRules, rules_of};
 use crate::samples::{is_in_mask, write_samples};
@@ -19,6 +18,7 @@ use draw_model::Dynamic;
 use limits::MAX_SIDE;
 use prerast_lib::{columns_of, covers, rows_of};
 use spv_check::Module;
+use spv_exec::Prepared;
 use stage_model::{Ended, Inputs, Kind};
 use state_model::{Buffers, FragmentPart, OutputPart, VIEWS};
 use std::alloc::{AllocError, Global};

@@ -6,11 +6,11 @@ ghost use Rattle.draw_model.specs.Invocation.{attributes_at, is_drawn, vertex_in
 ghost use Rattle.int_device.specs.Scenes.{Scene, IsScene, assembled_in, outcome_in, point_of, triangle_of};
 
 use crate::assembled::Assembled;
-use spv_exec::Prepared;
 use crate::unit::count_insts;
 use draw_model::{DrawCall, Dynamic};
 use limits::{COMPONENTS, LOCATIONS};
 use spv_check::Module;
+use spv_exec::Prepared;
 use stage_model::{Ended, Inputs, Kind};
 use state_model::{Buffers, State, Topology};
 use std::alloc::{AllocError, Global};

@@ -58,7 +58,9 @@ pub fn first_buffer_bound() -> Inputs {
 
 /// No specialization entries.
 pub fn no_entries() -> SpecValues {
-    SpecValues { entries: [None; ENTRIES] }
+    SpecValues {
+        entries: [None; ENTRIES],
+    }
 }
 
 /// One specialization entry.
@@ -100,7 +102,11 @@ pub fn run_over(
 }
 
 /// The outcome of one run of a module with these specialization entries, and nothing else to read.
-pub fn run_specialized(alloc: Global, words: &[u32], entries: &SpecValues) -> Result<Outcome, Fail> {
+pub fn run_specialized(
+    alloc: Global,
+    words: &[u32],
+    entries: &SpecValues,
+) -> Result<Outcome, Fail> {
     run_with(alloc, words, entries, &no_inputs())
 }
 
