@@ -88,8 +88,8 @@ shown_here insts entries frame place defined id value scalar has is =
     let o = one_word (program_of insts) value scalar is in
     let count : 1 ≡ frame_words (program_of insts) (inst_at insts e.0) = sym (ap length o.shown) ∙ s.size in
     let word : o.word ≡ slice_index frame (frame_place (program_of insts) e.0) =
-        ap (λ (l : List ℕ). get_or l 0 0) (sym (s.stands ∙ o.shown)) ∙ words_at_index frame (frame_place (program_of insts) e.0) (frame_words (program_of insts) (inst_at insts e.0)) 0 (omega (arith, count))
-        ∙ ap (slice_index frame) (omega arith) in
+    ap (λ (l : List ℕ). get_or l 0 0) (sym (s.stands ∙ o.shown)) ∙ words_at_index frame (frame_place (program_of insts) e.0) (frame_words (program_of insts) (inst_at insts e.0)) 0 (omega (arith, count))
+    ∙ ap (slice_index frame) (omega arith) in
     record { place = e.0; defined = e.1; word = o.words ∙ ap (λ (n : ℕ). Some (n ∷ [])) word }
 
 shown_words : (insts : List Inst) (entries : SpecValues) (frame : List ℕ) (place : ℕ) → IsDefined insts entries place frame → (ids : List ℕ) (read : List Value) (scalars : List Scalar) → all_values (defined_by (program_of insts) entries (take place insts)) ids ≡ Some read
