@@ -33,7 +33,8 @@ fn take_phi(of: &ModuleFrame<'_>, place: usize, before: u32, frame: &[u32], inco
     ensures { (values : Values) → IsFrame (program_of of.now.insts) frame.now
         → IsFrame (program_of of.now.insts) incoming.old
         → (r : PhiReads (program_of of.now.insts) frame.now values before place)
-        → incoming.new ≡ written incoming.old (frame_place (program_of of.now.insts) place) (in_frame (program_of of.now.insts) r.value) }
+        → incoming.new ≡ written incoming.old (frame_place (program_of of.now.insts) place)
+        (in_frame (program_of of.now.insts) r.value) }
 {
     if let Some(id) = paired(of.inst(place).words_from(2), before) {
         copy_words(
@@ -76,7 +77,8 @@ pub fn run_phi(of: &ModuleFrame<'_>, place: usize, incoming: &[u32], frame: &mut
     ensures { (value : Value) → IsFrame (program_of of.now.insts) frame.old
         → IsFrame (program_of of.now.insts) incoming.now
         → StandsAt (program_of of.now.insts) incoming.now place value
-        → frame.new ≡ written frame.old (frame_place (program_of of.now.insts) place) (in_frame (program_of of.now.insts) value) }
+        → frame.new ≡ written frame.old (frame_place (program_of of.now.insts) place)
+        (in_frame (program_of of.now.insts) value) }
 {
     let at = of.frame_place(place);
     copy_words(incoming, at, of.frame_words(place), frame, at);

@@ -39,7 +39,8 @@ impl<'m> Model for Prepared<'m> {
 
     ghost view = { λ p. record { words = p.of; entries = p.entries } };
 
-    ghost invariant = { λ p. IsPrepared p.of p.variables p.entries p.first p.constants.items p.frame.items p.incoming.items p.memory.items };
+    ghost invariant = { λ p. IsPrepared p.of p.variables p.entries p.first p.constants.items p.frame.items
+        p.incoming.items p.memory.items };
 }
 
 /// Where the first label stands.
@@ -62,7 +63,8 @@ impl<'m> Prepared<'m> {
         module: &'m Module,
         values: &SpecValues,
     ) -> Result<Prepared<'m>, AllocError>
-        ensures { IfOk result (λ prepared. prepared ≡ record { words = module.now; entries = values.now }) }
+        ensures { IfOk result
+            (λ prepared. prepared ≡ record { words = module.now; entries = values.now }) }
     {
         let of = ModuleFrame::new(alloc, module)?;
         let variables = Variables::new(alloc, &of)?;

@@ -122,7 +122,8 @@ pub fn walk(
     memory: &mut [u32],
 ) -> End
     requires { EndsSome of.now (start first) frame.old incoming.old memory.old }
-    ensures { (m : Machine) (kind : of_kind.Kind) (state : State) → Stands of.now m (start first) frame.old incoming.old memory.old
+    ensures { (m : Machine) (kind : of_kind.Kind) (state : State)
+        → Stands of.now m (start first) frame.old incoming.old memory.old
         → run (enough_steps of.now.insts) (program_of of.now.insts) m ≡ Some (kind, state)
         → EndsSo of.now result memory.new kind state }
 {
