@@ -30,7 +30,11 @@ pub fn add(words: &mut Vec<u32>, insts: &[(u16, &[u32])]) -> Result<(), AllocErr
 }
 
 /// The words of a module with these instructions, each of at most 100 words after its first.
-pub fn words_of(alloc: Global, insts: &[(u16, &[u32])], bound: u32) -> Result<Vec<u32>, AllocError> {
+pub fn words_of(
+    alloc: Global,
+    insts: &[(u16, &[u32])],
+    bound: u32,
+) -> Result<Vec<u32>, AllocError> {
     let mut words = Vec::from_slice(alloc, &[MAGIC, VERSION, 0, bound, 0])?;
     add(&mut words, insts)?;
     Ok(words)
