@@ -24,6 +24,11 @@ pub fn done(words: [u32; COMPONENTS], work: u64) -> Outcome {
     (Kind::Done, [0; COMPONENTS], slots, work)
 }
 
+/// An invocation that returned with this word at location 0.
+pub fn one_word(word: u32, work: u64) -> Outcome {
+    done([word, 0, 0, 0], work)
+}
+
 /// An invocation that left nothing.
 pub fn nothing(kind: Kind, work: u64) -> Outcome {
     (kind, [0; COMPONENTS], [[0; COMPONENTS]; LOCATIONS], work)
@@ -101,13 +106,14 @@ pub fn run_over(
     Ok(outcome(&ended))
 }
 
-/// The outcome of one run of a module with these specialization entries, and nothing else to read.
-pub fn run_specialized(
-    alloc: Global,
-    words: &[u32],
-    entries: &SpecValues,
-) -> Result<Outcome, Fail> {
-    run_with(alloc, words, entries, &no_inputs())
+/// The outcome of one run of a module with no entries, and inputs of zeros.
+pub fn run_plain(alloc: Global, words: &[u32]) -> Result<Outcome, Fail> {
+    run_on(alloc, words, &no_inputs())
+}
+
+/// The outcome of one run of a module with one specialization entry, and inputs of zeros.
+pub fn run_with_entry(alloc: Global, words: &[u32], id: u32, value: u32) -> Result<Outcome, Fail> {
+    run_with(alloc, words, &entry(id, value), &no_inputs())
 }
 
 /// The outcome of one run of a module with these inputs.

@@ -3,7 +3,7 @@
 
 use crate::outcomes::{
     Outcome, at_first_location, done, entry, first_buffer_bound, no_entries, no_inputs, nothing,
-    one_buffer, run_on, run_over, run_with,
+    one_buffer, one_word, run_on, run_over, run_with,
 };
 use crate::shader_words::{
     FLAT_INPUTS, LOOP, NESTED, PUSH_CONSTANTS, SWITCH, UNIFORM_BLOCK, VERTEX_OUTPUTS,
@@ -16,36 +16,20 @@ use std::test::Fail;
 /// -1.
 const MINUS_ONE: u32 = 0xffff_ffff;
 
+/// What stands at the first two locations, seen from one side.
+fn seen_from(front: bool) -> Inputs {
+    let mut inputs = at_first_location([20, 5, 6, 0]);
+    inputs.slots[1] = [8, 0, 0, 0];
+    inputs.front = front;
+    inputs
+}
+
 #[test]
 fn the_side_that_is_seen_chooses(rt: HostRuntime) -> Result<(), Fail> {
-    let zero = [0; 4];
-    let slots = [
-        [20, 5, 6, 0],
-        [8, 0, 0, 0],
-        zero,
-        zero,
-        zero,
-        zero,
-        zero,
-        zero,
-    ];
-    let front = Inputs {
-        slots,
-        ..no_inputs()
-    };
-    assert_eq!(rt;
-        run_on(rt.alloc(), &FLAT_INPUTS, &front)?,
-        done([20, 5, 6, 6], 24)
-    );
-    let back = Inputs {
-        slots,
-        front: false,
-        ..no_inputs()
-    };
-    assert_eq!(rt;
-        run_on(rt.alloc(), &FLAT_INPUTS, &back)?,
-        done([8, 5, 6, 1], 23)
-    );
+    let front = run_on(rt.alloc(), &FLAT_INPUTS, &seen_from(true))?;
+    let back = run_on(rt.alloc(), &FLAT_INPUTS, &seen_from(false))?;
+    assert_eq!(rt; front, done([20, 5, 6, 6], 24));
+    assert_eq!(rt; back, done([8, 5, 6, 1], 23));
     Ok(())
 }
 
@@ -58,9 +42,9 @@ fn sum_below(alloc: Global, limit: u32) -> Result<Outcome, Fail> {
 
 #[test]
 fn a_loop_is_broken_and_continued(rt: HostRuntime) -> Result<(), Fail> {
-    assert_eq!(rt; sum_below(rt.alloc(), 0)?, done([0, 0, 0, 0], 19));
-    assert_eq!(rt; sum_below(rt.alloc(), 10)?, done([27, 0, 0, 0], 271));
-    assert_eq!(rt; sum_below(rt.alloc(), 1000)?, done([108, 0, 0, 0], 487));
+    assert_eq!(rt; sum_below(rt.alloc(), 0)?, one_word(0, 19));
+    assert_eq!(rt; sum_below(rt.alloc(), 10)?, one_word(27, 271));
+    assert_eq!(rt; sum_below(rt.alloc(), 1000)?, one_word(108, 487));
     Ok(())
 }
 
@@ -71,15 +55,12 @@ fn middle(alloc: Global, x: u32, y: u32, z: u32) -> Result<Outcome, Fail> {
 
 #[test]
 fn each_way_through_selections_finds_the_middle_one(rt: HostRuntime) -> Result<(), Fail> {
-    assert_eq!(rt;
-        middle(rt.alloc(), MINUS_ONE, 0, 1)?,
-        done([0, 0, 0, 0], 29)
-    );
-    assert_eq!(rt; middle(rt.alloc(), 1, 3, 2)?, done([2, 0, 0, 0], 39));
-    assert_eq!(rt; middle(rt.alloc(), 2, 3, 1)?, done([2, 0, 0, 0], 39));
-    assert_eq!(rt; middle(rt.alloc(), 2, 1, 3)?, done([2, 0, 0, 0], 29));
-    assert_eq!(rt; middle(rt.alloc(), 3, 1, 2)?, done([2, 0, 0, 0], 41));
-    assert_eq!(rt; middle(rt.alloc(), 3, 2, 1)?, done([2, 0, 0, 0], 41));
+    assert_eq!(rt; middle(rt.alloc(), MINUS_ONE, 0, 1)?, one_word(0, 29));
+    assert_eq!(rt; middle(rt.alloc(), 1, 3, 2)?, one_word(2, 39));
+    assert_eq!(rt; middle(rt.alloc(), 2, 3, 1)?, one_word(2, 39));
+    assert_eq!(rt; middle(rt.alloc(), 2, 1, 3)?, one_word(2, 29));
+    assert_eq!(rt; middle(rt.alloc(), 3, 1, 2)?, one_word(2, 41));
+    assert_eq!(rt; middle(rt.alloc(), 3, 2, 1)?, one_word(2, 41));
     Ok(())
 }
 
@@ -103,15 +84,15 @@ fn case_of(alloc: Global, number: u32) -> Result<Outcome, Fail> {
 
 #[test]
 fn a_switch_has_cases_and_a_default(rt: HostRuntime) -> Result<(), Fail> {
-    assert_eq!(rt; case_of(rt.alloc(), 0)?, done([2, 0, 0, 0], 12));
-    assert_eq!(rt; case_of(rt.alloc(), 1)?, done([5, 0, 0, 0], 12));
-    assert_eq!(rt; case_of(rt.alloc(), 5)?, done([5, 0, 0, 0], 12));
+    assert_eq!(rt; case_of(rt.alloc(), 0)?, one_word(2, 12));
+    assert_eq!(rt; case_of(rt.alloc(), 1)?, one_word(5, 12));
+    assert_eq!(rt; case_of(rt.alloc(), 5)?, one_word(5, 12));
     assert_eq!(rt; case_of(rt.alloc(), 0xffff_fffd)?, nothing(Kind::Killed, 7));
-    assert_eq!(rt; case_of(rt.alloc(), 7)?, done([0xffff_fff9, 0, 0, 0], 14));
+    assert_eq!(rt; case_of(rt.alloc(), 7)?, one_word(0xffff_fff9, 14));
     let fifth = at_first_location([5, 0, 0, 0]);
     assert_eq!(rt;
         run_with(rt.alloc(), &SWITCH, &entry(4, 3), &fifth)?,
-        done([3, 0, 0, 0], 12)
+        one_word(3, 12)
     );
     Ok(())
 }
@@ -135,12 +116,12 @@ fn a_table_is_read_as_far_as_its_buffer_goes(rt: HostRuntime) -> Result<(), Fail
         [1, 10, 0, 0, 1, 2, 3, 4, 5, 6, 7],
     );
     assert_eq!(rt; table_entry(rt.alloc(), &whole)?, done([50, 8, 0, 0], 17));
-    assert_eq!(rt; table_entry(rt.alloc(), &short)?, done([50, 0, 0, 0], 17));
+    assert_eq!(rt; table_entry(rt.alloc(), &short)?, one_word(50, 17));
     assert_eq!(rt;
         table_entry(rt.alloc(), &[4, 10, 1, 1, 1, 1, 1, 1])?,
-        done([0; 4], 17)
+        one_word(0, 17)
     );
-    assert_eq!(rt; table_entry(rt.alloc(), &[])?, done([0; 4], 17));
+    assert_eq!(rt; table_entry(rt.alloc(), &[])?, one_word(0, 17));
     Ok(())
 }
 

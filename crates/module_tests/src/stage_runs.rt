@@ -4,7 +4,7 @@
 use crate::frame::words_of;
 use crate::outcomes::{
     at_first_location, done, entry, first_buffer_bound, no_entries, no_inputs, nothing, one_buffer,
-    outcome, run_on, run_over, run_specialized,
+    one_word, outcome, run_on, run_over, run_plain, run_with_entry,
 };
 use crate::sample_words::{
     CASES, DISCARDED, ENDLESS, EXCHANGE, INDEXED, LEFT_EARLY, QUOTIENT, SUM, UNIFORM_QUOTIENT,
@@ -19,46 +19,24 @@ use state_model::Buffers;
 use std::test::Fail;
 
 #[test]
-fn a_point_and_a_number_are_left(rt: HostRuntime) -> Result<(), Fail> {
+fn what_is_stored_is_left_unless_discarded(rt: HostRuntime) -> Result<(), Fail> {
+    let alloc = rt.alloc();
     let point = (Kind::Done, [128, 128, 0, 0], [[0; 4]; 8], 3);
-    assert_eq!(rt; run_specialized(rt.alloc(), &POINT, &no_entries())?, point);
-    let number = done([42, 0, 0, 0], 3);
-    assert_eq!(rt;
-        run_specialized(rt.alloc(), &NUMBER, &no_entries())?,
-        number
-    );
-    Ok(())
-}
-
-#[test]
-fn names_are_no_work(rt: HostRuntime) -> Result<(), Fail> {
-    let words = words_of(rt.alloc(), &NAMES_MODULE, 23)?;
-    assert_eq!(rt;
-        run_on(rt.alloc(), words.as_slice(), &no_inputs())?,
-        done([1, 0, 0, 0], 5)
-    );
+    assert_eq!(rt; run_plain(alloc, &POINT)?, point);
+    assert_eq!(rt; run_plain(alloc, &NUMBER)?, one_word(42, 3));
+    let names = words_of(alloc, &NAMES_MODULE, 23)?;
+    assert_eq!(rt; run_plain(alloc, names.as_slice())?, one_word(1, 5));
+    assert_eq!(rt; run_plain(alloc, &DISCARDED)?, nothing(Kind::Killed, 3));
     Ok(())
 }
 
 #[test]
 fn an_entry_changes_a_constant(rt: HostRuntime) -> Result<(), Fail> {
     let alloc = rt.alloc();
-    assert_eq!(rt;
-        run_specialized(alloc, &QUOTIENT, &no_entries())?,
-        done([14, 0, 0, 0], 4)
-    );
-    assert_eq!(rt;
-        run_specialized(alloc, &QUOTIENT, &entry(0, 5))?,
-        done([20, 0, 0, 0], 4)
-    );
-    assert_eq!(rt;
-        run_specialized(alloc, &QUOTIENT, &entry(0, 0))?,
-        done([0, 0, 0, 0], 4)
-    );
-    assert_eq!(rt;
-        run_specialized(alloc, &QUOTIENT, &entry(1, 5))?,
-        done([14, 0, 0, 0], 4)
-    );
+    assert_eq!(rt; run_plain(alloc, &QUOTIENT)?, one_word(14, 4));
+    assert_eq!(rt; run_with_entry(alloc, &QUOTIENT, 0, 5)?, one_word(20, 4));
+    assert_eq!(rt; run_with_entry(alloc, &QUOTIENT, 0, 0)?, one_word(0, 4));
+    assert_eq!(rt; run_with_entry(alloc, &QUOTIENT, 1, 5)?, one_word(14, 4));
     Ok(())
 }
 
@@ -70,19 +48,19 @@ fn a_uniform_past_its_buffers_end_is_zero(rt: HostRuntime) -> Result<(), Fail> {
     let entries = no_entries();
     assert_eq!(rt;
         run_over(alloc, &UNIFORM_QUOTIENT, &entries, &bound, &one)?,
-        done([14, 0, 0, 0], 6)
+        one_word(14, 6)
     );
     assert_eq!(rt;
         run_over(alloc, &UNIFORM_QUOTIENT, &entry(0, 1), &bound, &one)?,
-        done([100, 0, 0, 0], 6)
+        one_word(100, 6)
     );
     assert_eq!(rt;
         run_over(alloc, &UNIFORM_QUOTIENT, &entries, &bound, &none)?,
-        done([0; 4], 6)
+        one_word(0, 6)
     );
     assert_eq!(rt;
         run_over(alloc, &UNIFORM_QUOTIENT, &entries, &unbound, &one)?,
-        done([0; 4], 6)
+        one_word(0, 6)
     );
     Ok(())
 }
@@ -91,47 +69,21 @@ fn a_uniform_past_its_buffers_end_is_zero(rt: HostRuntime) -> Result<(), Fail> {
 fn a_phi_takes_the_value_of_the_block_before(rt: HostRuntime) -> Result<(), Fail> {
     let alloc = rt.alloc();
     let selection = words_of(alloc, &SELECTION_MODULE, 31)?;
+    assert_eq!(rt; run_plain(alloc, selection.as_slice())?, one_word(11, 9));
     assert_eq!(rt;
-        run_specialized(alloc, selection.as_slice(), &no_entries())?,
-        done([11, 0, 0, 0], 9)
+        run_with_entry(alloc, selection.as_slice(), 2, 0)?,
+        one_word(22, 9)
     );
-    assert_eq!(rt;
-        run_specialized(alloc, selection.as_slice(), &entry(2, 0))?,
-        done([22, 0, 0, 0], 9)
-    );
-    assert_eq!(rt;
-        run_specialized(alloc, &CASES, &no_entries())?,
-        done([10, 0, 0, 0], 9)
-    );
-    assert_eq!(rt;
-        run_specialized(alloc, &CASES, &entry(3, 1))?,
-        done([10, 0, 0, 0], 9)
-    );
-    assert_eq!(rt;
-        run_specialized(alloc, &CASES, &entry(3, 5))?,
-        done([30, 0, 0, 0], 7)
-    );
-    assert_eq!(rt;
-        run_specialized(alloc, &CASES, &entry(3, 9))?,
-        done([20, 0, 0, 0], 9)
-    );
-    Ok(())
-}
-
-#[test]
-fn a_default_is_left_early(rt: HostRuntime) -> Result<(), Fail> {
+    assert_eq!(rt; run_plain(alloc, &CASES)?, one_word(10, 9));
+    assert_eq!(rt; run_with_entry(alloc, &CASES, 3, 1)?, one_word(10, 9));
+    assert_eq!(rt; run_with_entry(alloc, &CASES, 3, 5)?, one_word(30, 7));
+    assert_eq!(rt; run_with_entry(alloc, &CASES, 3, 9)?, one_word(20, 9));
     let back = Inputs {
         front: false,
         ..no_inputs()
     };
-    assert_eq!(rt;
-        run_on(rt.alloc(), &LEFT_EARLY, &no_inputs())?,
-        done([10, 0, 0, 0], 13)
-    );
-    assert_eq!(rt;
-        run_on(rt.alloc(), &LEFT_EARLY, &back)?,
-        done([20, 0, 0, 0], 13)
-    );
+    assert_eq!(rt; run_plain(alloc, &LEFT_EARLY)?, one_word(10, 13));
+    assert_eq!(rt; run_on(alloc, &LEFT_EARLY, &back)?, one_word(20, 13));
     Ok(())
 }
 
@@ -140,62 +92,34 @@ fn the_last_back_edge_loses_the_invocation(rt: HostRuntime) -> Result<(), Fail> 
     let alloc = rt.alloc();
     let words = words_of(alloc, &LOOP_MODULE, 36)?;
     let count = words.as_slice();
+    assert_eq!(rt; run_plain(alloc, count)?, one_word(3, 57));
+    assert_eq!(rt; run_with_entry(alloc, count, 1, 0)?, one_word(0, 15));
     assert_eq!(rt;
-        run_specialized(alloc, count, &no_entries())?,
-        done([3, 0, 0, 0], 57)
+        run_with_entry(alloc, count, 1, 4095)?,
+        one_word(4095, 57_345)
     );
     assert_eq!(rt;
-        run_specialized(alloc, count, &entry(1, 0))?,
-        done([0, 0, 0, 0], 15)
-    );
-    assert_eq!(rt;
-        run_specialized(alloc, count, &entry(1, 4095))?,
-        done([4095, 0, 0, 0], 57_345)
-    );
-    assert_eq!(rt;
-        run_specialized(alloc, count, &entry(1, 4096))?,
+        run_with_entry(alloc, count, 1, 4096)?,
         nothing(Kind::Lost, 57_348)
     );
+    assert_eq!(rt; run_plain(alloc, &ENDLESS)?, nothing(Kind::Lost, 36_867));
     Ok(())
 }
 
 #[test]
 fn phis_of_a_header_take_their_values_at_once(rt: HostRuntime) -> Result<(), Fail> {
     let alloc = rt.alloc();
+    assert_eq!(rt; run_plain(alloc, &SUM)?, one_word(3, 55));
     assert_eq!(rt;
-        run_specialized(alloc, &SUM, &no_entries())?,
-        done([3, 0, 0, 0], 55)
+        run_with_entry(alloc, &SUM, 1, 4095)?,
+        one_word(0x007f_e801, 57_343)
     );
     assert_eq!(rt;
-        run_specialized(alloc, &SUM, &entry(1, 4095))?,
-        done([0x007f_e801, 0, 0, 0], 57_343)
-    );
-    assert_eq!(rt;
-        run_specialized(alloc, &SUM, &entry(1, 4096))?,
+        run_with_entry(alloc, &SUM, 1, 4096)?,
         nothing(Kind::Lost, 57_346)
     );
-    assert_eq!(rt;
-        run_specialized(alloc, &EXCHANGE, &entry(1, 2))?,
-        done([1, 0, 0, 0], 42)
-    );
-    assert_eq!(rt;
-        run_specialized(alloc, &EXCHANGE, &no_entries())?,
-        done([2, 0, 0, 0], 56)
-    );
-    Ok(())
-}
-
-#[test]
-fn what_is_discarded_or_lost_leaves_zeros(rt: HostRuntime) -> Result<(), Fail> {
-    let alloc = rt.alloc();
-    assert_eq!(rt;
-        run_specialized(alloc, &DISCARDED, &no_entries())?,
-        nothing(Kind::Killed, 3)
-    );
-    assert_eq!(rt;
-        run_specialized(alloc, &ENDLESS, &no_entries())?,
-        nothing(Kind::Lost, 36_867)
-    );
+    assert_eq!(rt; run_with_entry(alloc, &EXCHANGE, 1, 2)?, one_word(1, 42));
+    assert_eq!(rt; run_plain(alloc, &EXCHANGE)?, one_word(2, 56));
     Ok(())
 }
 
