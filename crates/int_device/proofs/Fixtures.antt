@@ -1,11 +1,9 @@
 -- Lists of the tests' states, whose elements are alike.
-use Rattle.std.proofs.Common.{◌≡◌, ℕ, zero, suc, ◌+◌, ◌^◌, ◌<◌, ◌≤◌, List, [], ◌∷◌, length, replicate, refl, sym, subst, arith, lit<}
+use Rattle.std.proofs.Common.{◌≡◌, ℕ, zero, suc, ◌<◌, List, [], ◌∷◌, length, replicate, refl, sym, subst, arith, lit<}
 use Rattle.std.specs.Prelude.{Option, None, Some, slice_index_or, IfSome}
 use Rattle.std.specs.List.{All}
 use Rattle.state_model.specs.declared.parts.Entry.{Entry}
-use Rattle.state_model.specs.declared.parts.SpecValues.{SpecValues}
 use Rattle.state_model.specs.Lawful.{IsSpecValues, IsEntry}
-use Rattle.draw_model.specs.declared.command.Dynamic.{Dynamic}
 use Rattle.draw_model.specs.LawfulDraw.{IsWord, IsDynamic}
 
 cons_at : {X : Type 0} (P : X → Type 0) (x : X) (xs : List X) → P x → All P xs → (k : ℕ) (d : X) → k < length (x ∷ xs) → P (slice_index_or (x ∷ xs) k d)
