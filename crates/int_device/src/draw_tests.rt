@@ -255,12 +255,16 @@ fn draw_square(
     }
 }
 
+fn checked(alloc: Global, words: &[u32]) -> Result<Module, Fail> {
+    Ok(check(alloc, words)?)
+}
+
 // Whether this is left of two triangles with an edge in common, of which so many vertices are drawn.
 fn leaves(alloc: Global, vertices: u32, words: [u32; 4], work: u64) -> Result<bool, Fail>
     requires { vertices ≤ 6 }
 {
-    let vertex = check(alloc, &VERTEX_WORDS)?;
-    let fragment = check(alloc, &FRAGMENT_WORDS)?;
+    let vertex = checked(alloc, &VERTEX_WORDS)?;
+    let fragment = checked(alloc, &FRAGMENT_WORDS)?;
     if !is_model(&vertex, execution_model::VERTEX) {
         return Ok(false);
     }
