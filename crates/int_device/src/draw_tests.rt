@@ -202,7 +202,8 @@ fn is_model(shader: &Module, model: u32) -> bool
 }
 
 fn model_of(insts: &[Inst]) -> Option<u32>
-    ensures { result ≡ option_map (λ (inst : Inst). slice_index inst.words 0) (find (λ (inst : Inst). inst.op == ENTRY_POINT) insts.now) }
+    ensures { result ≡ option_map (λ (inst : Inst). slice_index inst.words 0)
+        (find (λ (inst : Inst). inst.op == ENTRY_POINT) insts.now) }
 {
     let inst = insts.iter().find(|inst| inst.op == op::ENTRY_POINT)?;
     Some(inst.word(0))
