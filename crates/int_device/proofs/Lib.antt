@@ -3,6 +3,7 @@ mod CanvasLaws
 mod DrawLaws
 mod DrawRules
 mod FewInsts
+mod Fixtures
 mod Outputs
 mod PrimitiveLaws
 mod Ranges

@@ -3,6 +3,8 @@
 
 mod assembled;
 mod canvas;
+#[cfg(test)]
+mod draw_tests;
 mod drawing;
 mod fragment;
 mod primitive;
