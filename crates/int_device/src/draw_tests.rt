@@ -1,4 +1,4 @@
-//! Draws of whole units. Where memory runs out there is nothing to compare.
+//! Draws of whole units.
 ghost use Rattle.std.specs.Prelude.{◌≡◌, ◌≤◌, ◌==◌, ◌↔◌, Some, None, false, IfOk, IsTrue, length, slice_index};
 ghost use Rattle.std.specs.Option.{option_map};
 ghost use Rattle.spirv_model.specs.declared.module.Inst.{Inst};
@@ -228,7 +228,7 @@ fn draw_square(
     vertex: Module,
     fragment: Module,
     vertices: u32,
-) -> Result<Option<(Targets, u64)>, Fail>
+) -> Result<(Targets, u64), Fail>
     requires vertex { HasModel VERTEX vertex.insts }
     requires fragment { HasModel FRAGMENT fragment.insts }
     requires few { vertices ≤ 6 }
@@ -242,7 +242,7 @@ fn draw_square(
         first_instance: 0,
         instances: 1,
     };
-    match draw(
+    let work = draw(
         alloc,
         &unit,
         &state(),
@@ -250,10 +250,8 @@ fn draw_square(
         &call,
         &buffers,
         &mut targets,
-    ) {
-        Ok(work) => Ok(Some((targets, work))),
-        Err(_) => Ok(None),
-    }
+    )?;
+    Ok((targets, work))
 }
 
 fn checked(alloc: Global, words: &[u32]) -> Result<Module, Fail> {
@@ -272,10 +270,8 @@ fn leaves(alloc: Global, vertices: u32, words: [u32; 4], work: u64) -> Result<bo
     if !is_model(&fragment, execution_model::FRAGMENT) {
         return Ok(false);
     }
-    match draw_square(alloc, vertex, fragment, vertices)? {
-        Some((targets, steps)) => Ok(steps == work && holds(&targets, &words)),
-        None => Ok(true),
-    }
+    let (targets, steps) = draw_square(alloc, vertex, fragment, vertices)?;
+    Ok(steps == work && holds(&targets, &words))
 }
 
 fn holds(targets: &Targets, words: &[u32]) -> bool {
