@@ -150,7 +150,7 @@ fn a_run_leaves_nothing_to_the_next(rt: HostRuntime) -> Result<(), Fail> {
     let buffers = Buffers {
         list: Items::new(rt.alloc()),
     };
-    for _ in 0..20 {
+    for _ in 0..500 {
         let outside = prepared.run(&at_first_location([2, 0, 0, 0]), &buffers);
         assert_eq!(rt; outcome(&outside), done([7, 0, 5, 0], 17));
         let second = prepared.run(&at_first_location([1, 0, 0, 0]), &buffers);
