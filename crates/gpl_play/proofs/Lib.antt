@@ -1,3 +1,4 @@
+pub mod Nothing
 pub mod Outcomes
 pub mod Streams
 pub mod ValidForms

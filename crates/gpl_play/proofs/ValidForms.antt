@@ -41,6 +41,10 @@ use Rattle.trace_model.specs.declared.trace.Trace.{Trace}
 use Rattle.trace_model.proofs.Meanings.{trace-has}
 use Rattle.gpl_play.specs.Modules.{HasValidModules}
 
+-- the instructions of these words
+abbrev insts_in : List ℕ → List Inst
+insts_in words = elim (result_ok (module_of words)) [ None ↦ [] | Some read ↦ read.insts ]
+
 point_valid : (z x : ℕ) → IfSome (result_ok (module_of (point_form z x))) IsValidList
 unfolding point_form colour_form list_of_cut entry_of class_of kinds ids result block_end missing last_part labels_of switch_words id_twice id_out_of_bound result_type has_later_type breaks_types bad_type constant_fits bad_constant rule_fault type_fault before_of bad_decorate bad_member_decorate bad_variable breaks_decorations bad_decoration targets_by definition decoration_of offset_of type_of known_of known_after known_by opcode_of model_of facts_of is_visible blocks_of predecessors block_end_of used_ids names_predecessors uses_at not_visible constant_word typing_of scalar_operands_fit composite_operands_fit memory_operands_fit operands_fit is_in_function is_wrong_storage has_bad_operands has_wrong_storage use_fault_at use_fault bad_entry_count not_flat location_twice list_fault
 point_valid z x = record {
@@ -48,7 +52,7 @@ point_valid z x = record {
   derivation = record {
     before = 13;
     after = 17;
-    begins = record { module_level = AllPass-from_list_all (λ (inst : Inst). is_module_level inst.op) _ refl; function = refl };
+    begins = record { module_level = AllPass-from_list_all (λ (inst : Inst). is_module_level inst.op) (take 13 (insts_in (point_form z x))) refl; function = refl };
     sequence = ends (record { end = Return; next = None; after = 17 }) refl refl refl refl;
     function_end = refl;
     last = refl;
@@ -64,7 +68,7 @@ colour_valid colour = record {
   derivation = record {
     before = 11;
     after = 15;
-    begins = record { module_level = AllPass-from_list_all (λ (inst : Inst). is_module_level inst.op) _ refl; function = refl };
+    begins = record { module_level = AllPass-from_list_all (λ (inst : Inst). is_module_level inst.op) (take 11 (insts_in (colour_form colour))) refl; function = refl };
     sequence = ends (record { end = Return; next = None; after = 15 }) refl refl refl refl;
     function_end = refl;
     last = refl;

@@ -181,6 +181,7 @@ fn outcome(alloc: Global, words: Words) -> Result<Ended, AllocError>
 }
 
 /// Zeros for inputs, and nothing bound.
+#[tactic(auto, unfolding(trace_model::specs::Meaning::nothing_given))]
 fn nothing() -> Inputs
     ensures { result ≡ nothing_given.inputs }
 {
