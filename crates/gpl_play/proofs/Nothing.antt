@@ -16,10 +16,10 @@ given inputs list = record { entries = record { entries = replicate ENTRIES None
 abbrev Leaves : {E : Type 0} → Result Ended E → Words → Given → Type 0
 Leaves result words given = IfOk result (λ ended. option_map ended_of (stage words.insts given) ≡ Some ended)
 
-pub left_by_nothing : {E : Type 0} (result : Result Ended E) (words module : Words) (inputs : Inputs) (list : List (List ℕ)) → module ≡ words → inputs ≡ nothing_given.inputs → list ≡ []
-    → Leaves result module (given inputs list) → Leaves result words nothing_given
+pub left_by_nothing : {E : Type 0} (result : Result Ended E) (words made : Words) (inputs : Inputs) (list : List (List ℕ)) → made ≡ words → inputs ≡ nothing_given.inputs → list ≡ []
+    → Leaves result made (given inputs list) → Leaves result words nothing_given
 unfolding nothing_given
-left_by_nothing result words module inputs list is nothing empty leaves =
+left_by_nothing result words made inputs list is nothing empty leaves =
     subst (λ (w : Words). Leaves result w nothing_given) is
-    (subst (λ (i : Inputs). Leaves result module (given i [])) nothing
-    (subst (λ (l : List (List ℕ)). Leaves result module (given inputs l)) empty leaves))
+    (subst (λ (i : Inputs). Leaves result made (given i [])) nothing
+    (subst (λ (l : List (List ℕ)). Leaves result made (given inputs l)) empty leaves))
