@@ -12,4 +12,5 @@ pub mod LabelPlaces
 pub mod Loops
 pub mod StageRuns
 pub mod WholeBlocks
+pub mod WordRuns
 pub mod WordValues
