@@ -125,9 +125,9 @@ same_samples (f ∷ fs) (o ∷ os) e =
 
 -- ---- the state
 
-lawful_fragment : (fs : List FragmentLibrary) → All (λ f. IsFragmentPart f.part) fs → IfSome (first_part fs) IsFragmentPart
-lawful_fragment [] h = tt
-lawful_fragment (f ∷ fs) h = All-head (λ (f : FragmentLibrary). IsFragmentPart f.part) f fs h
+first_has : (P : FragmentPart → Type 0) (fs : List FragmentLibrary) → All (λ f. P f.part) fs → IfSome (first_part fs) P
+first_has P [] h = tt
+first_has P (f ∷ fs) h = All-head (λ (f : FragmentLibrary). P f.part) f fs h
 
 lawful_output : (os : List OutputPart) → All IsOutputPart os → IfSome (first os) IsOutputPart
 lawful_output [] h = tt
@@ -153,7 +153,7 @@ made_lawful v vs p ps fs os passed parts =
     record {
       vertex = All-head IsVertexPart v vs parts.vertex;
       prerast = All-head (λ (p : PrerastLibrary). IsPrerastPart p.part) p ps parts.prerast;
-      fragment = lawful_fragment fs parts.fragment;
+      fragment = first_has IsFragmentPart fs parts.fragment;
       output = lawful_output os parts.output;
       accord = record {
         fragment_there = there.fragment;
@@ -173,10 +173,43 @@ linked_lawful (v ∷ vs) (p ∷ ps) fs os state passed parts e =
     let same : state_of v p fs os ≡ state = cc e in
     subst IsLawful same (made_lawful v vs p ps fs os passed parts)
 
-pub IsLawful-of_linked : (libs : Libraries) (state : State) → AreLawful libs → state_if_linked libs ≡ Some state → IsLawful state
-unfolding state_if_linked
-IsLawful-of_linked libs state parts e = by_rule (failed_rule libs false) refl e
+-- what each given part has, the state's has
+prerast_given : (libs : Libraries) (state : State) (P : PrerastPart → Type 0) → All (λ p. P p.part) libs.prerast → linked_state libs ≡ Some state → P state.prerast
+prerast_given libs state P are e = by_lists libs.vertex libs.prerast are e
   where
-    by_rule : (rule : Option Rule) → failed_rule libs false ≡ rule → elim rule [ Some rule ↦ None | None ↦ linked_state libs ] ≡ Some state → IsLawful state
-    by_rule None is e = linked_lawful libs.vertex libs.prerast libs.fragment libs.output state (passes_rules libs false is) parts e
+    by_lists : (vs : List VertexPart) (ps : List PrerastLibrary) → All (λ p. P p.part) ps
+        → linked_state (record { vertex = vs; prerast = ps; fragment = libs.fragment; output = libs.output }) ≡ Some state → P state.prerast
+    by_lists [] ps are e = cc
+    by_lists (v ∷ vs) [] are e = cc
+    by_lists (v ∷ vs) (p ∷ ps) are e =
+        let same : state_of v p libs.fragment libs.output ≡ state = cc e in
+        subst (λ (s : State). P s.prerast) same (All-head (λ (p : PrerastLibrary). P p.part) p ps are)
+
+fragment_given : (libs : Libraries) (state : State) (P : FragmentPart → Type 0) → All (λ f. P f.part) libs.fragment → linked_state libs ≡ Some state → IfSome state.fragment P
+fragment_given libs state P are e = by_lists libs.vertex libs.prerast e
+  where
+    by_lists : (vs : List VertexPart) (ps : List PrerastLibrary)
+        → linked_state (record { vertex = vs; prerast = ps; fragment = libs.fragment; output = libs.output }) ≡ Some state → IfSome state.fragment P
+    by_lists [] ps e = cc
+    by_lists (v ∷ vs) [] e = cc
+    by_lists (v ∷ vs) (p ∷ ps) e =
+        let same : state_of v p libs.fragment libs.output ≡ state = cc e in
+        subst (λ (s : State). IfSome s.fragment P) same (first_has P libs.fragment are)
+
+if_links : (libs : Libraries) (state : State) (P : Type 0) → (failed_rule libs false ≡ None → linked_state libs ≡ Some state → P) → state_if_linked libs ≡ Some state → P
+unfolding state_if_linked
+if_links libs state P more e = by_rule (failed_rule libs false) refl e
+  where
+    by_rule : (rule : Option Rule) → failed_rule libs false ≡ rule → elim rule [ Some rule ↦ None | None ↦ linked_state libs ] ≡ Some state → P
+    by_rule None is e = more is e
     by_rule (Some rule) is e = cc
+
+pub prerast-linked : (libs : Libraries) (state : State) (P : PrerastPart → Type 0) → All (λ p. P p.part) libs.prerast → state_if_linked libs ≡ Some state → P state.prerast
+prerast-linked libs state P are e = if_links libs state (P state.prerast) (λ _ is. prerast_given libs state P are is) e
+
+pub fragment-linked : (libs : Libraries) (state : State) (P : FragmentPart → Type 0) → All (λ f. P f.part) libs.fragment → state_if_linked libs ≡ Some state → IfSome state.fragment P
+fragment-linked libs state P are e = if_links libs state (IfSome state.fragment P) (λ _ is. fragment_given libs state P are is) e
+
+pub IsLawful-of_linked : (libs : Libraries) (state : State) → AreLawful libs → state_if_linked libs ≡ Some state → IsLawful state
+IsLawful-of_linked libs state parts e =
+    if_links libs state (IsLawful state) (λ links is. linked_lawful libs.vertex libs.prerast libs.fragment libs.output state (passes_rules libs false links) parts is) e
