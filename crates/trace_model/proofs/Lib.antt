@@ -1,5 +1,7 @@
+pub mod FieldForms
 pub mod FieldNumbers
 pub mod FieldRanges
+pub mod FormLines
 pub mod JudgedReadings
 pub mod LawfulLines
 pub mod Meanings
