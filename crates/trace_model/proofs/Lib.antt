@@ -3,8 +3,11 @@ pub mod FieldNumbers
 pub mod FieldRanges
 pub mod FormLines
 pub mod JudgedReadings
+pub mod KeptLines
 pub mod LawfulLines
+pub mod LawfulParts
 pub mod Meanings
+pub mod ModuleWords
 pub mod ReadingLaws
 pub mod Samples
 pub mod SpecIdLaws
