@@ -84,11 +84,11 @@ words_take zero words h = no_words
 words_take (suc n) [] h = no_words
 words_take (suc n) (word ∷ words) h = words_cons word (take n words) (h 0) (words_take n words (λ i. h (suc i)))
 
-set_length : (place : ℕ) (new words : List ℕ) → length (words_set place new words) ≡ length words
+pub set_length : (place : ℕ) (new words : List ℕ) → length (words_set place new words) ≡ length words
 set_length place [] words = refl
 set_length place (word ∷ new) words = set_length (place + 1) new (slice_set words place word) ∙ length-set words place word
 
-set_words : (place : ℕ) (new words : List ℕ) → HoldsWords new → All (λ word. word < 2 ^ 32) words → All (λ word. word < 2 ^ 32) (words_set place new words)
+pub set_words : (place : ℕ) (new words : List ℕ) → HoldsWords new → All (λ word. word < 2 ^ 32) words → All (λ word. word < 2 ^ 32) (words_set place new words)
 set_words place [] words h k = k
 set_words place (word ∷ new) words h k =
     set_words (place + 1) new (slice_set words place word) (λ i. h (suc i)) (All-set (λ (word : ℕ). word < 2 ^ 32) words place word (h 0) k)
@@ -117,7 +117,7 @@ held-words t f sample h =
 abbrev pub AreTargets : ℕ → Targets → Type 0
 AreTargets count targets = All IsTarget targets.list × (length targets.list ≡ count)
 
-get_is : (targets : List Target) (number : ℕ) → All IsTarget targets → IfSome (slice_get targets number) IsTarget
+pub get_is : (targets : List Target) (number : ℕ) → All IsTarget targets → IfSome (slice_get targets number) IsTarget
 get_is [] number h = tt
 get_is (t ∷ targets) zero h = All-head IsTarget t targets h
 get_is (t ∷ targets) (suc number) h = get_is targets number (All-tail IsTarget t targets h)

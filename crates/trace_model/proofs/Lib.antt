@@ -4,8 +4,10 @@ pub mod FieldRanges
 pub mod FormLines
 pub mod JudgedReadings
 pub mod KeptLines
+pub mod LawfulDynamics
 pub mod LawfulLines
 pub mod LawfulParts
+pub mod LawfulTraces
 pub mod Meanings
 pub mod ModuleWords
 pub mod ReadingLaws
