@@ -7,6 +7,7 @@ pub mod KeptLines
 pub mod LawfulDynamics
 pub mod LawfulLines
 pub mod LawfulParts
+pub mod LawfulPlays
 pub mod LawfulTraces
 pub mod Meanings
 pub mod ModuleWords
