@@ -1,18 +1,15 @@
 -- The stage of a valid module is that of its first entry point.
-use Rattle.std.proofs.Common.{◌≡◌, ℕ, ◌==◌, Bool, true, false, cond, ◌&&◌, ◌||◌, List, [], ◌∷◌, length, Option, None, Some, ◌⊎◌, inl, inr, refl, ap, ◌∙◌, sym, subst, arith, rules, tests}
+use Rattle.std.proofs.Common.{◌≡◌, ℕ, ◌==◌, Bool, true, false, cond, ◌&&◌, ◌||◌, List, [], ◌∷◌, length, Option, None, Some, ◌⊎◌, inl, inr, refl, ap, ◌∙◌, rules, tests}
 use Rattle.std.specs.List.{filter, find}
 use Rattle.std.specs.Option.{option_map, option_or}
 use Rattle.spirv_model.specs.declared.execution_model.TheConstants.{VERTEX, FRAGMENT}
 use Rattle.spirv_model.specs.declared.module.Inst.{Inst}
 use Rattle.spirv_model.specs.declared.module.Words.{Words}
 use Rattle.spirv_model.specs.Operands.{word_at}
-use Rattle.valid_model.specs.ModuleFacts.{is_entry, model_of, facts_of, is_word, is_vertex}
-use Rattle.check_model.specs.declared.stage.Stage.{Stage}
+use Rattle.valid_model.specs.ModuleFacts.{is_entry, model_of, facts_of, is_word}
 use Rattle.check_model.specs.declared.stage.Stage.TheVariants.{Vertex, Fragment}
-use Rattle.check_model.specs.declared.fault.CheckFault.{CheckFault}
 use Rattle.check_model.specs.declared.fault.CheckFault.TheVariants as fault
-use Rattle.check_model.specs.EntryPoints.{entry_points, function_id, is_shader_entry, is_one_entry, bad_entry_count}
-use Rattle.check_model.specs.Intervals.{intervals_of}
+use Rattle.check_model.specs.EntryPoints.{entry_points, function_id, is_one_entry, bad_entry_count}
 use Rattle.check_model.specs.Interfaces.{stage_of}
 use Rattle.check_model.specs.Validity.{list_fault, IsValidList}
 

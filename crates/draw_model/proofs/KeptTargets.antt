@@ -1,8 +1,7 @@
 -- A lawful draw leaves as many targets as it is given, and lawful ones: formats and sizes stay, and words stay words.
-use Rattle.std.proofs.Common.{◌≡◌, ℕ, zero, suc, ◌+◌, ◌-◌, ◌^◌, ◌<◌, ◌≤◌, ◌==◌, Bool, true, false, List, [], ◌∷◌, map, take, drop, length, Option, None, Some, refl, ◌∙◌, arith}
+use Rattle.std.proofs.Common.{◌≡◌, ℕ, zero, suc, ◌+◌, ◌^◌, ◌<◌, Bool, true, false, List, [], ◌∷◌, take, drop, length, Option, None, Some, refl, ◌∙◌, arith}
 use Rattle.std.specs.Prelude.{⊤, IfSome, slice_get, slice_index, slice_index_or, slice_set, bit_and, bit_or, bit_xor, if◌then◌else◌}
 use Rattle.std.specs.Int.Bits.{and_lt}
-use Rattle.std.specs.Option.{option_map, option_map_or, option_and_then}
 use Rattle.std.specs.List.{All, fold, range_with_len}
 use Rattle.std.proofs.lemmas.Nat.{or_lt, xor_lt}
 use Rattle.std.proofs.lemmas.List.{length-set}
@@ -16,8 +15,7 @@ use Rattle.state_model.specs.declared.parts.Attachment.{Attachment}
 use Rattle.state_model.specs.declared.parts.FragmentPart.{FragmentPart}
 use Rattle.state_model.specs.declared.parts.OutputPart.{OutputPart}
 use Rattle.state_model.specs.declared.parts.State.{State}
-use Rattle.state_model.specs.Lawful.{IsFragmentPart, IsSpecValues, present_at}
-use Rattle.stage_model.specs.Stage.{Outcome}
+use Rattle.state_model.specs.Lawful.{IsFragmentPart, present_at}
 use Rattle.stage_model.proofs.WordValues.{some_map, some_then, some_if, always, HoldsWords, no_words, words_cons, words_map, words_drop, HoldsWordEntries, HoldWords}
 use Rattle.stage_model.proofs.WordRuns.{HoldsWordBuffers, LeavesWords}
 use Rattle.draw_model.specs.declared.command.Dynamic.{Dynamic}
@@ -31,7 +29,7 @@ use Rattle.draw_model.specs.Pixel.{logic_results, logic_result, written_componen
 use Rattle.draw_model.specs.SampleWrites.{FragmentStage, samples_of, has_output, DepthTest, depth_test, goes_on, with_depth, Write, write_at, with_write, after_location, after_writes, after_sample}
 use Rattle.draw_model.specs.TargetWords.{sample_size, sample_place, sample_words, words_set, with_sample, with_target, suits, if_suits, usable}
 use Rattle.draw_model.specs.WholeDraw.{fragments, fragment_stage, fragment_outcome, after_outcome, after_fragment, image}
-use Rattle.draw_model.proofs.WordDraws.{holds_of_all, all_of_holds, Each, each_all, entries-words, buffers-words, map_or, invoked-words, DrawsWords, IsWordFragment, fragments-words, fragment_inputs-words}
+use Rattle.draw_model.proofs.WordDraws.{holds_of_all, Each, each_all, entries-words, buffers-words, map_or, invoked-words, DrawsWords, IsWordFragment, fragments-words, fragment_inputs-words}
 
 -- ---- words of a pixel
 
@@ -46,24 +44,55 @@ logic-words s d op low also = each_word (logic_results s d) results op
     inverted-word a = omega arith
 
     results : Each (λ word. word < 2 ^ 32) (logic_results s d)
-    results =
-        (omega arith,
-        (and_lt 32 s d low also,
-        (and_lt 32 s (inverted d) low (inverted-word d),
-        (low,
-        (and_lt 32 (inverted s) d (inverted-word s) also,
-        (also,
-        (xor_lt 32 s d low also,
-        (or_lt 32 s d low also,
-        (inverted-word (bit_or s d),
-        (inverted-word (bit_xor s d),
-        (inverted-word d,
-        (or_lt 32 s (inverted d) low (inverted-word d),
-        (inverted-word s,
-        (or_lt 32 (inverted s) d (inverted-word s) also,
-        (inverted-word (bit_and s d),
-        (inverted-word 0,
-        tt))))))))))))))))
+    results = (
+      omega arith,
+      (
+        and_lt 32 s d low also,
+        (
+          and_lt 32 s (inverted d) low (inverted-word d),
+          (
+            low,
+            (
+              and_lt 32 (inverted s) d (inverted-word s) also,
+              (
+                also,
+                (
+                  xor_lt 32 s d low also,
+                  (
+                    or_lt 32 s d low also,
+                    (
+                      inverted-word (bit_or s d),
+                      (
+                        inverted-word (bit_xor s d),
+                        (
+                          inverted-word d,
+                          (
+                            or_lt 32 s (inverted d) low (inverted-word d),
+                            (
+                              inverted-word s,
+                              (
+                                or_lt 32 (inverted s) d (inverted-word s) also,
+                                (
+                                  inverted-word (bit_and s d),
+                                  (
+                                    inverted-word 0,
+                                    tt,
+                                  ),
+                                ),
+                              ),
+                            ),
+                          ),
+                        ),
+                      ),
+                    ),
+                  ),
+                ),
+              ),
+            ),
+          ),
+        ),
+      ),
+    )
 
 component-word : (op : Option ℕ) (mask : ℕ) (s d : List ℕ) (i : ℕ) → HoldsWords s → HoldsWords d → stored_component op mask s d i < 2 ^ 32
 component-word op mask s d i h k = by_test (has_bit mask i) op

@@ -1,5 +1,5 @@
 -- What the invocations of a lawful draw are given and leave are words of 32 bits.
-use Rattle.std.proofs.Common.{◌≡◌, ℕ, zero, suc, ◌+◌, ◌*◌, ◌%◌, ◌^◌, ◌==◌, ◌<◌, ◌≤◌, Bool, true, false, cond, List, [], ◌∷◌, ◌++◌, map, replicate, length, Option, None, Some, refl, arith}
+use Rattle.std.proofs.Common.{ℕ, zero, suc, ◌+◌, ◌%◌, ◌^◌, ◌==◌, ◌<◌, ◌≤◌, Bool, true, false, cond, List, [], ◌∷◌, ◌++◌, map, replicate, Option, None, Some, arith}
 use Rattle.std.specs.Prelude.{⊤, nat_lt, IfSome, slice_get, slice_index, slice_index_or, filter, unwrap_or, if◌then◌else◌}
 use Rattle.std.specs.Option.{option_map_or, option_and_then}
 use Rattle.std.specs.List.{All, flat_map, range_with_len}
@@ -23,9 +23,9 @@ use Rattle.stage_model.proofs.WordRuns.{HoldsWordInputs, HoldsWordBuffers, Leave
 use Rattle.draw_model.specs.declared.command.Dynamic.{Dynamic}
 use Rattle.draw_model.specs.declared.command.DrawCall.{DrawCall}
 use Rattle.draw_model.specs.Fetch.{buffer_word, attribute_start, attribute_component, components, input_at}
-use Rattle.draw_model.specs.Invocation.{Fragment, no_slots, no_outcome, invoked, vertex_index, instance_index, attributes_at, vertex_inputs, fragment_inputs}
+use Rattle.draw_model.specs.Invocation.{Fragment, no_outcome, invoked, vertex_index, instance_index, vertex_inputs, fragment_inputs}
 use Rattle.draw_model.specs.LawfulDraw.{IsWord, AreWords, IsSide}
-use Rattle.draw_model.specs.WholeDraw.{vertex_outcome, primitive_count, vertices_of, primitives, corners_of, faces_front, is_rasterized, layers_of, first_position, first_slots, fragment_at, covered_in, fragments_in, rows_of, fragments_of, fragments}
+use Rattle.draw_model.specs.WholeDraw.{vertex_outcome, primitive_count, vertices_of, primitives, corners_of, is_rasterized, layers_of, first_position, first_slots, fragment_at, covered_in, fragments_in, rows_of, fragments_of, fragments}
 use Rattle.draw_model.specs.Coverage.{is_covered}
 
 -- ---- lists of words

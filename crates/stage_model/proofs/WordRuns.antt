@@ -1,6 +1,6 @@
 -- A run that is given words of 32 bits leaves such words.
-use Rattle.std.proofs.Common.{◌≡◌, ℕ, zero, suc, ◌+◌, ◌-◌, ◌/◌, ◌^◌, ◌<◌, ◌==◌, Bool, true, false, List, [], ◌∷◌, ◌++◌, map, length, take, drop, replicate, Option, None, Some, refl, arith}
-use Rattle.std.specs.Prelude.{⊤, ◌&&◌, ◌||◌, nat_lt, nat_le, IfSome, slice_get, slice_index, slice_index_or, if◌then◌else◌}
+use Rattle.std.proofs.Common.{ℕ, zero, suc, ◌+◌, ◌-◌, ◌/◌, ◌^◌, ◌<◌, ◌==◌, Bool, true, false, List, [], ◌∷◌, ◌++◌, map, length, take, drop, replicate, Option, None, Some, arith}
+use Rattle.std.specs.Prelude.{⊤, ◌&&◌, nat_lt, nat_le, IfSome, slice_get, slice_index, slice_index_or, if◌then◌else◌}
 use Rattle.std.specs.Option.{option_map, option_and_then}
 use Rattle.std.specs.List.{range_with_len}
 use Rattle.limits.specs.declared.TheConstants.{COMPONENTS, LOCATIONS, BACK_EDGES}
@@ -11,15 +11,15 @@ use Rattle.spirv_model.specs.declared.builtin.TheConstants as builtin
 use Rattle.spirv_model.specs.declared.decoration.TheConstants.{BUILT_IN, LOCATION, BINDING, DESCRIPTOR_SET}
 use Rattle.spirv_model.specs.Operands.{class_of}
 use Rattle.valid_model.specs.declared.meaning.Meaning.{Meaning}
-use Rattle.valid_model.specs.declared.meaning.Meaning.TheVariants.{Absent, Shape as OfShape, Variable}
+use Rattle.valid_model.specs.declared.meaning.Meaning.TheVariants.{Variable}
 use Rattle.state_model.specs.declared.buffers.Buffers.{Buffers}
 use Rattle.stage_model.specs.declared.inputs.Inputs.{Inputs}
 use Rattle.stage_model.specs.declared.outcome.Kind.{Kind}
 use Rattle.stage_model.specs.declared.outcome.Kind.TheVariants.{Done, Killed, Lost}
 use Rattle.stage_model.specs.Value.{Value, Truth, Word, Composite, Pointer, Outside, Layout, size_of, word_of_truth, words_of, value_of, zero_of}
 use Rattle.stage_model.specs.Program.{Program, program_of, held_type, held_layout, block_offsets}
-use Rattle.stage_model.specs.Start.{Values, Memory, all_values, buffer_word, option_word, built_in_word, input_word, bound_buffer, class_word, variable_word, first_memory, defined_by}
-use Rattle.stage_model.specs.Operations.{extracted, inserted, constructed, is_vector, shuffled, operation}
+use Rattle.stage_model.specs.Start.{Memory, buffer_word, option_word, built_in_word, input_word, bound_buffer, class_word, variable_word, first_memory}
+use Rattle.stage_model.specs.Operations.{extracted, constructed, is_vector, operation}
 use Rattle.stage_model.specs.Effect.{Effect, Passes, Gives, Writes, Enters, Goes, Stops, has_result_class, read_ids, words_from, with_words, place_of, loaded, stored, stores, all_words, pointer_along, chained, chain_of, one, inserted_in, shuffle_of, result_of, branches, picks, effect_of}
 use Rattle.stage_model.specs.Machine.{State, Flow, Next, To, Stopped, read_from, read_values, after_effect, done, Machine, Step, GoesOn, Ends, at, back_to, jump, led, step, end_after, run}
 use Rattle.stage_model.specs.Stage.{Given, Outcome, start_at, first_label, size_in, output_with, components_left, position_left, slots_left, left_by, outcome_of, enough_steps, stage}

@@ -1,5 +1,5 @@
 -- Values all of whose words have 32 bits: the results of constants and operations on such values are such values.
-use Rattle.std.proofs.Common.{◌≡◌, ℕ, zero, suc, ◌+◌, ◌-◌, ◌^◌, ◌<◌, ◌==◌, Bool, true, false, cond, not, List, [], ◌∷◌, ◌++◌, map, length, take, drop, Option, None, Some, refl, arith}
+use Rattle.std.proofs.Common.{ℕ, zero, suc, ◌+◌, ◌-◌, ◌^◌, ◌<◌, ◌==◌, Bool, true, false, List, [], ◌∷◌, ◌++◌, map, length, take, drop, Option, None, Some, arith}
 use Rattle.std.specs.Prelude.{⊤, nat_lt, IfSome, slice_get, slice_index, is_some, if◌then◌else◌}
 use Rattle.std.specs.Option.{option_map, option_and_then, unwrap_or}
 use Rattle.std.specs.List.{flat_map, fold}
@@ -13,7 +13,7 @@ use Rattle.state_model.specs.declared.parts.SpecValues.{SpecValues}
 use Rattle.spirv_model.specs.declared.decoration.TheConstants.{SPEC_ID}
 use Rattle.stage_model.specs.Value.{Value, Truth, Word, Composite, Pointer, Outside, Parts, NoParts, PartsOf, Layout, OneTruth, OneWord, Several, Layouts, NoLayouts, LayoutsOf, size_of, word_of_truth, words_with, words_of, words_of_parts, value_of, parts_of, zero_of, list_of, parts_from}
 use Rattle.stage_model.specs.Program.{Program}
-use Rattle.stage_model.specs.Start.{Values, with_value, all_values, scalar_of, of_scalar, all_scalars, scalar_value, entry_word, specialized, is_nonzero, rest_of, constant_of, with_definition, defined_by}
+use Rattle.stage_model.specs.Start.{Values, with_value, all_values, scalar_of, of_scalar, all_scalars, scalar_value, entry_word, specialized, rest_of, constant_of, with_definition, defined_by}
 use Rattle.stage_model.specs.Operations.{parts_in, composite, extracted, replaced, inserted, components_of, constructed, zero_like, shuffled_component, all_of, shuffled, on_each, on_pairs, chosen, selected_components, any_true, all_true, operation}
 
 -- ---- options

@@ -5,7 +5,7 @@ use Rattle.std.specs.Option.{option_map}
 use Rattle.std.proofs.lemmas.Bool.Decides.{nat_tests}
 use Rattle.std.proofs.lemmas.List.Elements.{All-head}
 use Rattle.state_model.specs.Lawful.{IsLawful, IsVertexPart, IsPrerastPart, IsFragmentPart, IsOutputPart}
-use Rattle.state_model.specs.Link.{Libraries, PrerastLibrary, FragmentLibrary, failed_rule, failed_content_rule, rule_if, lacks_subset, has_unused_subset, view_masks, view_masks_differ, multisample_differs, differ, differ_multisample, first, is_given, some_pair, linked_state}
+use Rattle.state_model.specs.Link.{Libraries, PrerastLibrary, FragmentLibrary, failed_rule, failed_content_rule, rule_if, lacks_subset, has_unused_subset, view_masks_differ, multisample_differs, differ, differ_multisample, first, is_given, some_pair, linked_state}
 use Rattle.state_model.specs.PipeKey.{state_if_linked}
 use Rattle.state_model.specs.declared.rule.Rule.{Rule}
 use Rattle.state_model.specs.declared.parts.Multisample.{Multisample}

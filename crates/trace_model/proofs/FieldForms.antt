@@ -1,5 +1,5 @@
 -- What the fields of a library's line say is lawful.
-use Rattle.std.proofs.Common.{◌≡◌, ℕ, zero, suc, ◌+◌, ◌-◌, ◌%◌, ◌^◌, ◌<◌, ◌≤◌, ◌==◌, Bool, true, false, cond, List, [], ◌∷◌, ◌++◌, Option, None, Some, length, replicate, refl, ap, subst, sym, ◌∙◌, arith, length-append}
+use Rattle.std.proofs.Common.{◌≡◌, ℕ, suc, ◌-◌, ◌^◌, ◌<◌, ◌≤◌, ◌==◌, Bool, true, false, cond, List, [], ◌∷◌, Option, None, Some, length, replicate, refl, subst, ◌∙◌, arith, length-append}
 use Rattle.std.specs.Prelude.{bytes_eq, nat_lt, nat_le, IfSome, All}
 use Rattle.std.specs.List.{position, position_or_len, slice_split}
 use Rattle.std.specs.Option.{option_map}
@@ -8,11 +8,10 @@ use Rattle.std.proofs.lemmas.Nat.{pow_pos}
 use Rattle.std.proofs.lemmas.List.{length-replicate}
 use Rattle.std.proofs.lemmas.Bool.Decides.{nat_tests}
 use Rattle.std.proofs.lemmas.List.Elements.{All-append, All-replicate}
-use Rattle.limits.specs.declared.TheConstants.{LOCATIONS, VERTEX_BINDINGS, ENTRIES, ATTACHMENTS, MAX_STRIDE, MAX_OFFSET}
+use Rattle.limits.specs.declared.TheConstants.{LOCATIONS, VERTEX_BINDINGS, ENTRIES, MAX_STRIDE, MAX_OFFSET}
 use Rattle.state_model.specs.declared.format.TheConstants.{FORMAT_R32_UINT, FORMAT_R32_SINT, FORMAT_R32G32B32A32_SINT}
 use Rattle.state_model.specs.declared.vulkan.TheConstants.{COMPARE_OP_ALWAYS}
 use Rattle.state_model.specs.declared.parts.VertexBinding.{VertexBinding}
-use Rattle.state_model.specs.declared.parts.Attribute.{Attribute}
 use Rattle.state_model.specs.declared.parts.Entry.{Entry}
 use Rattle.state_model.specs.declared.parts.Depth.{Depth}
 use Rattle.state_model.specs.declared.parts.Multisample.{Multisample}
@@ -21,8 +20,8 @@ use Rattle.state_model.specs.Lawful.{AllPresent, IsVertexBinding, IsAttribute, I
 use Rattle.draw_model.specs.declared.framebuffer.TheConstants.{DEPTH_FORMAT}
 use Rattle.trace_model.specs.declared.whole.Version.{Version}
 use Rattle.trace_model.specs.declared.whole.Version.TheVariants.{First, Second}
-use Rattle.trace_model.specs.Text.{◌>>=◌, word_value}
-use Rattle.trace_model.specs.Fields.{each, at_most, some_of, range_value, below, flag_value, word_choice, colon_parts, mask_value, samples_value, multisample_parts, multisample_value, format_names, format_value, colour_value}
+use Rattle.trace_model.specs.Text.{word_value}
+use Rattle.trace_model.specs.Fields.{each, at_most, some_of, range_value, below, flag_value, colon_parts, mask_value, samples_value, multisample_parts, multisample_value, format_names, format_value, colour_value}
 use Rattle.trace_model.specs.Lines.{LocatedAttribute}
 use Rattle.trace_model.specs.LibraryLines.{entry_count, filled_up, binding_parts, binding_value, attribute_parts, attribute_value, entry_parts, entry_value, entries_value, depth_parts, depth_value, attachment_parts, attachment_value}
 use Rattle.trace_model.proofs.FieldRanges.{after, range-within, below-is, samples-are, word-below, each-is}

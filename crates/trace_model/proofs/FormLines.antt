@@ -1,24 +1,18 @@
 -- What a line of a form says is in its ranges, before anything is looked up.
-use Rattle.std.proofs.Common.{◌≡◌, ℕ, zero, suc, ◌+◌, ◌-◌, ◌*◌, ◌^◌, ◌<◌, ◌≤◌, ◌==◌, Bool, true, false, cond, List, [], ◌∷◌, ◌++◌, Option, None, Some, length, take, drop, replicate, refl, ap, subst, sym, ◌∙◌, arith, length-take-le}
-use Rattle.std.specs.Prelude.{⊤, bytes_eq, codes, nat_lt, nat_le, slice_get, slice_index_or, IfSome, All}
+use Rattle.std.proofs.Common.{◌≡◌, ℕ, ◌+◌, ◌-◌, ◌*◌, ◌^◌, ◌<◌, ◌≤◌, Bool, true, false, cond, List, [], ◌∷◌, Option, None, Some, length, take, drop, refl, arith, length-take-le}
+use Rattle.std.specs.Prelude.{⊤, bytes_eq, codes, nat_le, slice_index_or, IfSome, All}
 use Rattle.std.specs.List.{find}
-use Rattle.std.specs.Option.{option_and_then}
 use Rattle.std.proofs.lemmas.Bool.Decides.{nat_tests}
 use Rattle.std.proofs.lemmas.List.{length-replicate}
 use Rattle.std.proofs.lemmas.List.Elements.{All-replicate}
 use Rattle.limits.specs.declared.TheConstants.{LOCATIONS, PUSH_WORDS, VERTEX_BINDINGS, DESCRIPTOR_SETS, DESCRIPTOR_BINDINGS, ENTRIES, ATTACHMENTS, MAX_SIDE}
 use Rattle.state_model.specs.declared.TheConstants.{VIEWS}
 use Rattle.state_model.specs.declared.vulkan.TheConstants.{CULL_MODE_FRONT_AND_BACK, LOGIC_OP_SET}
-use Rattle.state_model.specs.declared.parts.VertexBinding.{VertexBinding}
-use Rattle.state_model.specs.declared.parts.Layout.{Layout}
 use Rattle.state_model.specs.declared.parts.Entry.{Entry}
-use Rattle.state_model.specs.declared.parts.Depth.{Depth}
-use Rattle.state_model.specs.declared.parts.Multisample.{Multisample}
 use Rattle.state_model.specs.declared.parts.Attachment.{Attachment}
-use Rattle.state_model.specs.Lawful.{AllPresent, present_at, IsVertexBinding, IsAttribute, IsLayout, IsEntry, IsDepth, IsMultisample, IsAttachment, IsViewMask, IsOutputPart}
+use Rattle.state_model.specs.Lawful.{AllPresent, present_at, IsVertexBinding, IsLayout, IsEntry, IsDepth, IsMultisample, IsAttachment, IsViewMask, IsOutputPart}
 use Rattle.draw_model.specs.declared.command.TheConstants.{DRAW_VERTICES}
 use Rattle.draw_model.specs.declared.framebuffer.TheConstants.{MAX_LAYERS}
-use Rattle.draw_model.specs.declared.framebuffer.Target.{Target}
 use Rattle.draw_model.specs.LawfulDraw.{IsWord, AreWords, IsTarget, IsSide, IsCall}
 use Rattle.draw_model.specs.TargetWords.{target_size}
 use Rattle.trace_model.specs.declared.limit.TheConstants.{BUFFER_WORDS, PIPE_LIBRARIES, RECORDERS}
@@ -26,16 +20,16 @@ use Rattle.trace_model.specs.declared.whole.Step.{Step}
 use Rattle.trace_model.specs.declared.whole.Step.TheVariants.{Push, Vbuf, Ubuf, Scissor, Bind, Draw}
 use Rattle.trace_model.specs.declared.whole.Version.{Version}
 use Rattle.trace_model.specs.declared.whole.Version.TheVariants.{First, Second}
-use Rattle.trace_model.specs.Text.{◌>>=◌, word_value, fields_of}
+use Rattle.trace_model.specs.Text.{word_value, fields_of}
 use Rattle.trace_model.specs.Fields.{each, exactly, at_most, some_of, number_value, range_value, below, flag_value, optional, word_choice, mask_value, samples_value, multisample_value, format_value}
-use Rattle.trace_model.specs.Lines.{LocatedAttribute, VertexLine, PrerastLine, FragmentLine, Line, data_line, code_line, layout_line, vertex_line, prerast_line, fragment_line, output_line, pipe_line, target_line, step_line}
+use Rattle.trace_model.specs.Lines.{VertexLine, PrerastLine, FragmentLine, Line, data_line, code_line, layout_line, vertex_line, prerast_line, fragment_line, output_line, pipe_line, target_line, step_line}
 use Rattle.trace_model.specs.SetupLines.{data_form, code_form, layout_form, pipe_form, cleared, target_form}
 use Rattle.trace_model.specs.LibraryLines.{attachment_count, filled_up, topology_value, binding_value, attribute_value, vertex_form, entries_value, view_mask_value, prerast_form, depth_value, fragment_form, attachment_value, output_form}
 use Rattle.trace_model.specs.RecorderLines.{push_form, vbuf_form, ubuf_form, scissor_form, bind_form, draw_form}
 use Rattle.trace_model.specs.LineForms.{LineForm, line_forms, line_of_fields, line_of}
 use Rattle.trace_model.specs.LawfulPlay.{IsScissor}
 use Rattle.trace_model.proofs.FieldRanges.{after, range-within, below-is, samples-are, word-below, each-is}
-use Rattle.trace_model.proofs.LawfulLines.{all-of_each, optional-is, exactly-is, layout-lawful}
+use Rattle.trace_model.proofs.LawfulLines.{all-of_each, optional-is, exactly-is}
 use Rattle.trace_model.proofs.FieldForms.{ends_in, at_most-is, some_of-is, filled_up-is, mask-below, binding-is, IsLocated, attribute-is, entries-are, depth-is, multisample-is, format-within, attachment-is}
 
 -- ---- what each line is
@@ -137,17 +131,19 @@ target-is (recorder ∷ format ∷ width ∷ height ∷ layers ∷ samples ∷ c
     after (range_value 1 MAX_LAYERS layers) _ line (IsForm line) (λ l l_is h.
     after (samples_value samples) _ line (IsForm line) (λ s s_is h.
     after (word_value clear) _ line (IsForm line) (λ c c_is h.
-    ends (target_line r (cleared (record { format = f; width = w; height = y; layers = l; samples = s; words = [] }) c)) line
-    (below-is RECORDERS recorder r (omega arith) r_is, record {
-      first_format = (format-within format f f_is).0;
-      last_format = (format-within format f f_is).1;
-      width = range-within 1 MAX_SIDE width w w_is;
-      height = range-within 1 MAX_SIDE height y y_is;
-      layers = range-within 1 MAX_LAYERS layers l l_is;
-      samples = samples-are samples s s_is;
-      size = length-replicate (target_size (record { format = f; width = w; height = y; layers = l; samples = s; words = [] })) c;
-      words = All-replicate IsWord (target_size (record { format = f; width = w; height = y; layers = l; samples = s; words = [] })) c (word-below clear c c_is);
-    }) h) h) h) h) h) h) h) h
+    ends (target_line r (cleared (record { format = f; width = w; height = y; layers = l; samples = s; words = [] }) c)) line (
+      below-is RECORDERS recorder r (omega arith) r_is,
+      record {
+        first_format = (format-within format f f_is).0;
+        last_format = (format-within format f f_is).1;
+        width = range-within 1 MAX_SIDE width w w_is;
+        height = range-within 1 MAX_SIDE height y y_is;
+        layers = range-within 1 MAX_LAYERS layers l l_is;
+        samples = samples-are samples s s_is;
+        size = length-replicate (target_size (record { format = f; width = w; height = y; layers = l; samples = s; words = [] })) c;
+        words = All-replicate IsWord (target_size (record { format = f; width = w; height = y; layers = l; samples = s; words = [] })) c (word-below clear c c_is);
+      },
+    ) h) h) h) h) h) h) h) h
 
 -- ---- libraries
 
@@ -256,10 +252,13 @@ push-is (recorder ∷ at ∷ words) line h =
     after (below RECORDERS recorder) _ line (IsForm line) (λ r r_is h.
     after (below PUSH_WORDS at) _ line (IsForm line) (λ a a_is h.
     after (some_of (PUSH_WORDS - a) word_value words) _ line (IsForm line) (λ w w_are h.
-    ends (step_line r (Push a w)) line
-    (below-is RECORDERS recorder r (omega arith) r_is,
-    (within a (length w) (below-is PUSH_WORDS at a (omega arith) a_is) (some_of-is (PUSH_WORDS - a) word_value IsWord word-below words w w_are).1,
-    (some_of-is (PUSH_WORDS - a) word_value IsWord word-below words w w_are).0)) h) h) h) h
+    ends (step_line r (Push a w)) line (
+      below-is RECORDERS recorder r (omega arith) r_is,
+      (
+        within a (length w) (below-is PUSH_WORDS at a (omega arith) a_is) (some_of-is (PUSH_WORDS - a) word_value IsWord word-below words w w_are).1,
+        (some_of-is (PUSH_WORDS - a) word_value IsWord word-below words w w_are).0,
+      ),
+    ) h) h) h) h
   where
     within : (a n : ℕ) → a < PUSH_WORDS → n ≤ PUSH_WORDS - a → a + n ≤ PUSH_WORDS
     within a n low few = omega (arith, low, few)
@@ -305,10 +304,13 @@ scissor-is (recorder ∷ x ∷ y ∷ width ∷ height ∷ []) line h =
     after (range_value 0 MAX_SIDE y) _ line (IsForm line) (λ b b_is h.
     after (range_value 0 (MAX_SIDE - a) width) _ line (IsForm line) (λ c c_is h.
     after (range_value 0 (MAX_SIDE - b) height) _ line (IsForm line) (λ d d_is h.
-    ends (step_line r (Scissor (a ∷ b ∷ c ∷ d ∷ []))) line
-    (below-is RECORDERS recorder r (omega arith) r_is,
-    (side a c (range-within 0 MAX_SIDE x a a_is).1 (range-within 0 (MAX_SIDE - a) width c c_is).1,
-    side b d (range-within 0 MAX_SIDE y b b_is).1 (range-within 0 (MAX_SIDE - b) height d d_is).1)) h) h) h) h) h) h
+    ends (step_line r (Scissor (a ∷ b ∷ c ∷ d ∷ []))) line (
+      below-is RECORDERS recorder r (omega arith) r_is,
+      (
+        side a c (range-within 0 MAX_SIDE x a a_is).1 (range-within 0 (MAX_SIDE - a) width c c_is).1,
+        side b d (range-within 0 MAX_SIDE y b b_is).1 (range-within 0 (MAX_SIDE - b) height d d_is).1,
+      ),
+    ) h) h) h) h) h) h
   where
     side : (start extent : ℕ) → start ≤ MAX_SIDE → extent ≤ MAX_SIDE - start → IsSide start extent
     side start extent low few = omega (arith, low, few)
@@ -369,9 +371,31 @@ KnowForms [] = ⊤
 KnowForms (f ∷ forms) = KnowsForm f × KnowForms forms
 
 known : KnowForms line_forms
-known =
-    (λ version. data-is, (λ version. code-is, (λ version. layout-is, (λ version. vertex-is, (prerast-is, (fragment-is, (output-is, (λ version. pipe-is,
-    (λ version. target-is, (λ version. push-is, (λ version. vbuf-is, (λ version. ubuf-is, (λ version. scissor-is, (bind-is, (λ version. draw-is, tt)))))))))))))))
+known = (
+  λ version. data-is,
+  (
+    λ version. code-is,
+    (
+      λ version. layout-is,
+      (
+        λ version. vertex-is,
+        (
+          prerast-is,
+          (
+            fragment-is,
+            (
+              output-is,
+              (
+                λ version. pipe-is,
+                (λ version. target-is, (λ version. push-is, (λ version. vbuf-is, (λ version. ubuf-is, (λ version. scissor-is, (bind-is, (λ version. draw-is, tt))))))),
+              ),
+            ),
+          ),
+        ),
+      ),
+    ),
+  ),
+)
 
 found_form : (test : LineForm → Bool) (forms : List LineForm) (f : LineForm) → KnowForms forms → find test forms ≡ Some f → KnowsForm f
 found_form test [] f know h = cc

@@ -1,7 +1,7 @@
 -- What the lines before a line have made is lawful, and stays so with each line that has no cause.
-use Rattle.std.proofs.Common.{◌≡◌, ℕ, zero, suc, ◌+◌, ◌<◌, ◌≤◌, Bool, true, false, cond, not, ◌||◌, List, [], ◌∷◌, ◌++◌, Option, None, Some, Result, Ok, Err, length, refl, ap, subst, sym, ◌∙◌, arith, length-append}
-use Rattle.std.specs.Prelude.{nat_le, nat_lt, slice_get, IfSome}
-use Rattle.std.specs.List.{All, list_any, sum_by, count_by}
+use Rattle.std.proofs.Common.{◌≡◌, ℕ, zero, suc, ◌+◌, ◌<◌, ◌≤◌, Bool, true, false, cond, not, ◌||◌, List, [], ◌∷◌, ◌++◌, Option, None, Some, Ok, Err, length, refl, arith, length-append}
+use Rattle.std.specs.Prelude.{nat_lt, slice_get, IfSome}
+use Rattle.std.specs.List.{All, list_any, count_by}
 use Rattle.std.specs.Option.{option_or, option_map, option_map_or}
 use Rattle.std.specs.Result.{result_err}
 use Rattle.std.proofs.lemmas.Bool.Decides.{nat_tests}
@@ -10,15 +10,13 @@ use Rattle.std.proofs.lemmas.List.Sums.{sum_by-append}
 use Rattle.limits.specs.declared.TheConstants.{MODULES}
 use Rattle.spirv_model.specs.declared.module.Words.{Words}
 use Rattle.spirv_model.specs.declared.execution_model.TheConstants.{VERTEX, FRAGMENT}
-use Rattle.state_model.specs.Lawful.{AllPresent, IsLayout}
-use Rattle.check_model.specs.declared.fault.CheckFault.{CheckFault}
-use Rattle.check_model.specs.declared.stage.Stage.TheVariants.{Vertex, Fragment}
+use Rattle.state_model.specs.Lawful.{IsLayout}
 use Rattle.check_model.specs.Validity.{IsValid}
 use Rattle.draw_model.specs.declared.framebuffer.Target.{Target}
 use Rattle.draw_model.specs.LawfulDraw.{AreWords, IsTarget, AreBelow}
 use Rattle.draw_model.specs.TargetWords.{target_size}
 use Rattle.trace_model.specs.declared.line_fault.Cause.{Cause}
-use Rattle.trace_model.specs.declared.line_fault.Cause.TheVariants.{TooMany, Unknown, BadModule, BadPart, ForeignTarget}
+use Rattle.trace_model.specs.declared.line_fault.Cause.TheVariants.{TooMany, Unknown, BadModule, BadPart}
 use Rattle.trace_model.specs.declared.limit.TheConstants.{BUFFERS, LIBRARIES, PIPES, TARGETS, TARGET_WORDS, DRAWS, RECORDERS}
 use Rattle.trace_model.specs.declared.whole.Library.{Library}
 use Rattle.trace_model.specs.declared.whole.Library.TheVariants as library
@@ -26,9 +24,9 @@ use Rattle.trace_model.specs.declared.whole.Step.{Step}
 use Rattle.trace_model.specs.declared.whole.Step.TheVariants.{Push, Vbuf, Ubuf, Scissor, Bind, Draw}
 use Rattle.trace_model.specs.declared.whole.Trace.{Trace}
 use Rattle.trace_model.specs.Lines.{Line, data_line, code_line, layout_line, vertex_line, prerast_line, fragment_line, output_line, pipe_line, target_line, step_line}
-use Rattle.trace_model.specs.LinesBefore.{Before, nothing_before, vertex_part, prerast_part, fragment_part, with_library, with_module, after_line}
-use Rattle.trace_model.specs.ObjectCauses.{is_full, is_draw, target_words, is_one_draw_more, is_too_many, lacks, names_lacking, lacks_sort, is_depth, is_colour, names_unknown, lacks_shader, is_unknown, binds_foreign}
-use Rattle.trace_model.specs.PartCauses.{is_bad_vertex, is_bad_numbered, is_bad_part}
+use Rattle.trace_model.specs.LinesBefore.{Before, nothing_before, vertex_part, prerast_part, fragment_part, with_module, after_line}
+use Rattle.trace_model.specs.ObjectCauses.{is_full, is_draw, target_words, is_one_draw_more, is_too_many, lacks, names_lacking, lacks_sort, is_depth, is_colour, names_unknown, is_unknown}
+use Rattle.trace_model.specs.PartCauses.{is_bad_part}
 use Rattle.trace_model.specs.Reading.{Verdict, IsVerdict, module_cause, cause_if, cause_of}
 use Rattle.trace_model.specs.LawfulPlay.{IsModule, NamesModule, IsLibrary, Counts, IsStep, counts_of, LawfulTrace}
 use Rattle.trace_model.proofs.FormLines.{IsForm, IsStepForm}
@@ -53,7 +51,7 @@ still_there (z ∷ xs) y x zero h = h
 still_there (z ∷ xs) y x (suc n) h = still_there xs y x n h
 
 names-weaker : (modules : List Words) (read : Words) (model number : ℕ) → NamesModule modules model number → NamesModule (pushed modules read) model number
-names-weaker modules read model number h = record { read = h.read; there = still_there modules read h.read number h.there; stage = h.stage }
+names-weaker modules read model number h = record { read = h.read; there = still_there modules read h.read number h.there; valid = h.valid; stage = h.stage }
 
 library-weaker : (modules : List Words) (read : Words) (l : Library) → IsLibrary modules l → IsLibrary (pushed modules read) l
 library-weaker modules read (library.Vertex part) h = h
@@ -75,13 +73,15 @@ step-weaker a b (Push at words) more h = h
 step-weaker a b (Vbuf slot buffer) more h = (h.0, below-weaker a.buffers b.buffers buffer more.buffers h.1)
 step-weaker a b (Ubuf set binding buffer) more h = (h.0, h.1, below-weaker a.buffers b.buffers buffer more.buffers h.2)
 step-weaker a b (Scissor rect) more h = h
-step-weaker a b (Bind colour depth) more h =
-    (h.0,
-    All-weaker (λ (o : Option ℕ). IfSome o (λ n. n < a.targets)) (λ (o : Option ℕ). IfSome o (λ n. n < b.targets)) (λ o. below-weaker a.targets b.targets o more.targets) colour h.1,
-    below-weaker a.targets b.targets depth more.targets h.2)
+step-weaker a b (Bind colour depth) more h = (
+  h.0,
+  All-weaker (λ (o : Option ℕ). IfSome o (λ n. n < a.targets)) (λ (o : Option ℕ). IfSome o (λ n. n < b.targets)) (λ o. below-weaker a.targets b.targets o more.targets) colour h.1,
+  below-weaker a.targets b.targets depth more.targets h.2,
+)
 step-weaker a b (Draw pipe call) more h = let low = h.0 in let up = more.pipes in (omega (arith, low, up), h.1)
 
-abbrev IsRecorded : Counts → ℕ × Step → Type 0
+-- by a recorder
+abbrev pub IsRecorded : Counts → ℕ × Step → Type 0
 IsRecorded counts s = (s.0 < RECORDERS) × IsStep counts s.1
 
 steps-weaker : (a b : Counts) (steps : List (ℕ × Step)) → AreMore a b → All (IsRecorded a) steps → All (IsRecorded b) steps
@@ -336,11 +336,17 @@ line-kept judge judges before line h form none = by_line line form (faultless ju
     by_line (vertex_line line) form ok =
         record { layouts = h.layouts; trace = with-lib before.trace (library.Vertex (vertex_part line)) h.trace (vertex-lawful line form ok.good) ok.free }
     by_line (prerast_line line) form ok =
-        record { layouts = h.layouts; trace = with-lib before.trace (library.Prerast (prerast_part before line)) h.trace
-        (prerast-lawful before line h.trace.few_modules h.trace.modules h.layouts form ok.known ok.good) ok.free }
+        record {
+          layouts = h.layouts;
+          trace = with-lib before.trace (library.Prerast (prerast_part before line)) h.trace
+              (prerast-lawful before line h.trace.few_modules h.trace.modules h.layouts form ok.known ok.good) ok.free;
+        }
     by_line (fragment_line line) form ok =
-        record { layouts = h.layouts; trace = with-lib before.trace (library.Fragment (fragment_part before line)) h.trace
-        (fragment-lawful before line h.trace.few_modules h.trace.modules h.layouts form ok.known ok.good) ok.free }
+        record {
+          layouts = h.layouts;
+          trace = with-lib before.trace (library.Fragment (fragment_part before line)) h.trace
+              (fragment-lawful before line h.trace.few_modules h.trace.modules h.layouts form ok.known ok.good) ok.free;
+        }
     by_line (output_line part) form ok = record { layouts = h.layouts; trace = with-lib before.trace (library.Output part) h.trace form ok.free }
     by_line (pipe_line numbers) form ok = record { layouts = h.layouts; trace = with-pipe before.trace numbers h.trace ok.known ok.free }
     by_line (target_line recorder target) form ok = record { layouts = h.layouts; trace = with-target before.trace recorder target h.trace form.0 form.1 ok.free }

@@ -1,5 +1,5 @@
 -- What a recorder draws with is lawful at each draw.
-use Rattle.std.proofs.Common.{◌≡◌, ℕ, zero, suc, ◌+◌, ◌<◌, ◌≤◌, List, [], ◌∷◌, ◌++◌, Option, None, Some, length, replicate, refl, ◌∙◌, arith}
+use Rattle.std.proofs.Common.{◌≡◌, ℕ, zero, suc, ◌<◌, List, [], ◌∷◌, Option, None, length, replicate, refl, ◌∙◌, arith}
 use Rattle.std.specs.Prelude.{slice_index_or, slice_set, IfSome}
 use Rattle.std.specs.List.{All}
 use Rattle.std.proofs.lemmas.List.{length-set}
@@ -7,7 +7,6 @@ use Rattle.std.proofs.lemmas.List.Elements.{All-nil, All-cons, All-head, All-tai
 use Rattle.limits.specs.declared.TheConstants.{PUSH_WORDS, VERTEX_BINDINGS, DESCRIPTOR_SETS, DESCRIPTOR_BINDINGS, ATTACHMENTS}
 use Rattle.draw_model.specs.declared.command.Dynamic.{Dynamic}
 use Rattle.draw_model.specs.LawfulDraw.{IsWord, AreBelow, IsDynamic, IsCall}
-use Rattle.draw_model.specs.TargetWords.{words_set}
 use Rattle.draw_model.proofs.WordDraws.{holds_of_all}
 use Rattle.draw_model.proofs.KeptTargets.{set_length, set_words}
 use Rattle.trace_model.specs.declared.limit.TheConstants.{RECORDERS}
@@ -15,6 +14,7 @@ use Rattle.trace_model.specs.declared.whole.Step.{Step}
 use Rattle.trace_model.specs.declared.whole.Step.TheVariants.{Push, Vbuf, Ubuf, Scissor, Bind, Draw}
 use Rattle.trace_model.specs.declared.whole.Trace.{Trace}
 use Rattle.trace_model.specs.LawfulPlay.{IsScissor, Counts, IsStep, counts_of, LawfulTrace}
+use Rattle.trace_model.proofs.KeptLines.{IsRecorded}
 use Rattle.trace_model.specs.Playing.{first_dynamic, after_step, RecordedDraw, dynamic_at, draws_from, draws_of}
 
 abbrev LawfulDynamic : Counts → Dynamic → Type 0
@@ -112,9 +112,10 @@ step-lawful counts d (Ubuf set binding buffer) h is =
       vertex = h.vertex;
       set_count = length-set d.uniforms set (slice_set (slice_index_or d.uniforms set []) binding buffer) ∙ h.set_count;
       uniforms =
-          All-set (IsSet counts.buffers) d.uniforms set (slice_set (slice_index_or d.uniforms set []) binding buffer)
-          (length-set (slice_index_or d.uniforms set []) binding buffer ∙ old.0,
-          All-set (λ (o : Option ℕ). IfSome o (λ number. number < counts.buffers)) (slice_index_or d.uniforms set []) binding buffer is.2 old.1) h.uniforms;
+          All-set (IsSet counts.buffers) d.uniforms set (slice_set (slice_index_or d.uniforms set []) binding buffer) (
+            length-set (slice_index_or d.uniforms set []) binding buffer ∙ old.0,
+            All-set (λ (o : Option ℕ). IfSome o (λ number. number < counts.buffers)) (slice_index_or d.uniforms set []) binding buffer is.2 old.1,
+          ) h.uniforms;
       scissor_count = h.scissor_count;
       scissor_x = h.scissor_x;
       scissor_y = h.scissor_y;
@@ -145,9 +146,6 @@ at-lawful : (counts : Counts) (dynamics : List Dynamic) (recorder : ℕ) → All
 at-lawful counts [] recorder h = first-lawful counts
 at-lawful counts (d ∷ dynamics) zero h = All-head (LawfulDynamic counts) d dynamics h
 at-lawful counts (d ∷ dynamics) (suc recorder) h = at-lawful counts dynamics recorder (All-tail (LawfulDynamic counts) d dynamics h)
-
-abbrev IsRecorded : Counts → ℕ × Step → Type 0
-IsRecorded counts s = (s.0 < RECORDERS) × IsStep counts s.1
 
 after-lawful : (counts : Counts) (dynamics : List Dynamic) (recorder : ℕ) (s : Step) → All (LawfulDynamic counts) dynamics → IsStep counts s
     → All (LawfulDynamic counts) (slice_set dynamics recorder (after_step (dynamic_at dynamics recorder) s))

@@ -1,6 +1,6 @@
 -- The part of a library that is neither unknown nor bad is lawful, and its module is of its stage.
-use Rattle.std.proofs.Common.{◌≡◌, ◌≢◌, ℕ, zero, suc, ◌+◌, ◌<◌, ◌≤◌, ◌==◌, Bool, true, false, cond, not, ◌||◌, List, [], ◌∷◌, ◌++◌, map, Option, None, Some, length, replicate, refl, ap, subst, sym, ◌∙◌, arith, rules, tests}
-use Rattle.std.specs.Prelude.{nat_le, slice_get, slice_index_or, is_some, is_none, IfSome, IsSome}
+use Rattle.std.proofs.Common.{◌≡◌, ◌≢◌, ℕ, zero, suc, ◌<◌, ◌≤◌, ◌==◌, Bool, true, false, cond, ◌||◌, List, [], ◌∷◌, ◌++◌, map, Option, None, Some, length, replicate, refl, ap, sym, ◌∙◌, arith}
+use Rattle.std.specs.Prelude.{nat_le, slice_get, slice_index_or, is_none, IfSome, IsSome}
 use Rattle.std.specs.List.{All, AllPairs, find, list_any, range_with_len}
 use Rattle.std.specs.Option.{option_map, option_map_or}
 use Rattle.std.proofs.lemmas.Bool.Decides.{nat_tests}
@@ -12,23 +12,19 @@ use Rattle.spirv_model.specs.declared.execution_model.TheConstants.{VERTEX, FRAG
 use Rattle.body_model.specs.Switches.{is_among, repeat}
 use Rattle.valid_model.specs.ModuleFacts.{model_of}
 use Rattle.state_model.specs.declared.parts.Attribute.{Attribute}
-use Rattle.state_model.specs.declared.parts.Layout.{Layout}
 use Rattle.state_model.specs.declared.parts.Entry.{Entry}
 use Rattle.state_model.specs.declared.parts.VertexBinding.{VertexBinding}
-use Rattle.state_model.specs.Lawful.{AllPresent, present_at, IsAttribute, IsLayout, IsEntry, HaveDifferentIds, IsSpecValues, IsVertexPart, BindingsAreThere, IsPrerastPart, IsFragmentPart}
+use Rattle.state_model.specs.Lawful.{AllPresent, present_at, IsAttribute, IsLayout, IsEntry, HaveDifferentIds, IsSpecValues, IsVertexPart, IsPrerastPart, IsFragmentPart}
 use Rattle.check_model.specs.declared.stage.Stage.{Stage}
 use Rattle.check_model.specs.declared.stage.Stage.TheVariants.{Vertex, Fragment}
 use Rattle.check_model.specs.Interfaces.{stage_of}
-use Rattle.check_model.specs.Validity.{IsValidList}
 use Rattle.check_model.proofs.EntryModels.{vertex_model, fragment_model}
-use Rattle.draw_model.specs.LawfulDraw.{HasModel}
 use Rattle.trace_model.specs.Lines.{LocatedAttribute, VertexLine, PrerastLine, FragmentLine}
-use Rattle.trace_model.specs.LibraryLines.{filled_up}
 use Rattle.trace_model.specs.LinesBefore.{Before, layout_at, by_location, entries_in, vertex_part, prerast_part, fragment_part}
 use Rattle.trace_model.specs.ObjectCauses.{lacks, lacks_shader}
 use Rattle.trace_model.specs.PartCauses.{lacks_binding, is_bad_vertex, stages_differ, exceeds_layout, is_bad_shader, is_bad_numbered}
 use Rattle.trace_model.specs.LawfulPlay.{IsModule, NamesModule}
-use Rattle.trace_model.proofs.FieldForms.{filled_up-is, IsLocated}
+use Rattle.trace_model.proofs.FieldForms.{filled_up-is}
 use Rattle.trace_model.proofs.FormLines.{IsVertexForm, AreEntries, IsPrerastForm, IsFragmentForm}
 
 -- ---- tests
@@ -154,7 +150,7 @@ shader before stage module_number layout_number entries few modules layouts form
         → IsShader before stage module_number layout_number entries
     by_module low also (read, is, valid) =
         let numbered : is_bad_shader stage read (layout_at before layout_number) entries ≡ false
-            = sym (ap (λ (o : Option Words). option_map_or (λ read. is_bad_shader stage read (layout_at before layout_number) entries) o false) is) ∙ good in
+        = sym (ap (λ (o : Option Words). option_map_or (λ read. is_bad_shader stage read (layout_at before layout_number) entries) o false) is) ∙ good in
         let outer = or_parts (stages_differ stage (stage_of read.insts) || repeat (map (λ e. e.id) entries)) (exceeds_layout read.insts (layout_at before layout_number)) numbered in
         let inner = or_parts (stages_differ stage (stage_of read.insts)) (repeat (map (λ e. e.id) entries)) outer.0 in
         record {
@@ -172,15 +168,17 @@ pub prerast-lawful : (before : Before) (line : PrerastLine) → length before.tr
     → IsPrerastPart (prerast_part before line) × NamesModule before.trace.modules VERTEX line.module_number
 unfolding model_of
 prerast-lawful before line few modules layouts form known good =
-    let is = shader before Vertex line.module_number line.layout_number line.entries few modules layouts form.entries known good in
-    (record { module_number = is.low; layout = is.layout; view_mask = form.view_mask; cull = form.cull; entries = is.values },
-    record { read = is.read; there = is.is_there; stage = vertex_model is.read.insts is.of_stage })
+    let is = shader before Vertex line.module_number line.layout_number line.entries few modules layouts form.entries known good in (
+      record { module_number = is.low; layout = is.layout; view_mask = form.view_mask; cull = form.cull; entries = is.values },
+      record { read = is.read; there = is.is_there; valid = is.is_module.valid; stage = vertex_model is.read.insts is.of_stage },
+    )
 
 pub fragment-lawful : (before : Before) (line : FragmentLine) → length before.trace.modules ≤ MODULES → All IsModule before.trace.modules → All IsLayout before.layouts
     → IsFragmentForm line → lacks_shader before line.module_number line.layout_number ≡ false → is_bad_numbered Fragment before line.module_number line.layout_number line.entries ≡ false
     → IsFragmentPart (fragment_part before line) × NamesModule before.trace.modules FRAGMENT line.module_number
 unfolding model_of
 fragment-lawful before line few modules layouts form known good =
-    let is = shader before Fragment line.module_number line.layout_number line.entries few modules layouts form.entries known good in
-    (record { module_number = is.low; layout = is.layout; view_mask = form.view_mask; depth = form.depth; multisample = form.multisample; entries = is.values },
-    record { read = is.read; there = is.is_there; stage = fragment_model is.read is.is_module.valid is.of_stage })
+    let is = shader before Fragment line.module_number line.layout_number line.entries few modules layouts form.entries known good in (
+      record { module_number = is.low; layout = is.layout; view_mask = form.view_mask; depth = form.depth; multisample = form.multisample; entries = is.values },
+      record { read = is.read; there = is.is_there; valid = is.is_module.valid; stage = fragment_model is.read is.is_module.valid is.of_stage },
+    )

@@ -1,5 +1,5 @@
 -- Each draw of a trace that isn't refused is a lawful draw, on the targets as the draws before it leave them.
-use Rattle.std.proofs.Common.{◌≡◌, ◌↔◌, ℕ, zero, suc, ◌<◌, List, [], ◌∷◌, ◌++◌, map, Option, None, Some, length, refl, ap, subst, sym, ◌∙◌}
+use Rattle.std.proofs.Common.{◌≡◌, ◌↔◌, ℕ, zero, suc, ◌<◌, List, [], ◌∷◌, ◌++◌, Option, None, Some, length, refl, ap, subst, sym, ◌∙◌}
 use Rattle.std.specs.Prelude.{⊤, slice_get, slice_index_or, IfSome, IsTrue, IsNone}
 use Rattle.std.specs.List.{All, fold, filter_map, cons_option}
 use Rattle.std.specs.Option.{option_map, option_map_or}
@@ -8,10 +8,8 @@ use Rattle.std.proofs.lemmas.List.Elements.{All-nil, All-cons, All-head, All-tai
 use Rattle.spirv_model.specs.declared.execution_model.TheConstants.{VERTEX, FRAGMENT}
 use Rattle.spirv_model.specs.declared.module.Inst.{Inst}
 use Rattle.spirv_model.specs.declared.module.Words.{Words}
-use Rattle.state_model.specs.declared.parts.VertexPart.{VertexPart}
 use Rattle.state_model.specs.declared.parts.PrerastPart.{PrerastPart}
 use Rattle.state_model.specs.declared.parts.FragmentPart.{FragmentPart}
-use Rattle.state_model.specs.declared.parts.OutputPart.{OutputPart}
 use Rattle.state_model.specs.declared.parts.State.{State}
 use Rattle.state_model.specs.Lawful.{IsLawful, IsVertexPart, IsPrerastPart, IsFragmentPart, IsOutputPart}
 use Rattle.state_model.specs.Link.{PrerastLibrary, FragmentLibrary, Libraries}
@@ -21,7 +19,6 @@ use Rattle.stage_model.proofs.WordValues.{HoldWords}
 use Rattle.draw_model.specs.declared.framebuffer.Target.{Target}
 use Rattle.draw_model.specs.declared.framebuffer.Targets.{Targets}
 use Rattle.draw_model.specs.LawfulDraw.{AreWords, HasModel, IsTarget, IsDynamic, LawfulDraw}
-use Rattle.draw_model.specs.WholeDraw.{image}
 use Rattle.draw_model.proofs.WordDraws.{holds_of_all}
 use Rattle.draw_model.proofs.KeptTargets.{AreTargets, image-kept}
 use Rattle.trace_model.specs.declared.limit.TheConstants.{RECORDERS}
@@ -29,9 +26,9 @@ use Rattle.trace_model.specs.declared.whole.Library.{Library}
 use Rattle.trace_model.specs.declared.whole.Library.TheVariants as library
 use Rattle.trace_model.specs.declared.whole.Trace.{Trace}
 use Rattle.trace_model.specs.Pipes.{module_insts, vertex_in, output_in, prerast_in, fragment_in, libraries_by_subset, pipe_libraries, pipe_state, vertex_insts, fragment_insts}
-use Rattle.trace_model.specs.Playing.{RecordedDraw, draws_of, first_targets, after_linked, after_draw}
+use Rattle.trace_model.specs.Playing.{RecordedDraw, first_targets, after_linked, after_draw}
 use Rattle.trace_model.specs.Reading.{IsTraceOf}
-use Rattle.trace_model.specs.LawfulPlay.{IsModule, NamesModule, IsLibrary, counts_of, LawfulTrace, IsPlayable, MayBeDrawn}
+use Rattle.trace_model.specs.LawfulPlay.{IsModule, NamesModule, IsLibrary, counts_of, LawfulTrace, MayBeDrawn}
 use Rattle.trace_model.proofs.LawfulDynamics.{IsDrawn, draws-lawful}
 use Rattle.trace_model.proofs.LawfulTraces.{trace-is_lawful}
 
@@ -145,7 +142,8 @@ pipe-lawful trace pipe state h e = linked trace (pipe_libraries trace pipe) stat
 
 -- ---- its modules
 
-insts_are : (trace : Trace) (model number : ℕ) (names : NamesModule trace.modules model number) → module_insts trace number ≡ names.read.insts
+-- a module's instructions by its number
+pub insts_are : (trace : Trace) (model number : ℕ) (names : NamesModule trace.modules model number) → module_insts trace number ≡ names.read.insts
 insts_are trace model number names = ap (λ (o : Option Words). option_map_or (λ m. m.insts) o []) names.there
 
 -- a module of this stage, whose instructions hold words
@@ -222,9 +220,10 @@ front-kept trace (drawn ∷ front) targets h draws are =
     (draw-kept trace drawn targets h (All-head (IsDrawn (counts_of trace)) drawn front draws) are)
 
 first-lawful : (trace : Trace) → LawfulTrace trace → AreTargets (length trace.targets) (first_targets trace)
-first-lawful trace h =
-    (All-map IsTarget (λ (t : ℕ × Target). t.1) trace.targets (All-weaker (λ (t : ℕ × Target). (t.0 < RECORDERS) × IsTarget t.1) (λ (t : ℕ × Target). IsTarget t.1) (λ t is. is.1) trace.targets h.targets),
-    length-map trace.targets (λ (t : ℕ × Target). t.1))
+first-lawful trace h = (
+  All-map IsTarget (λ (t : ℕ × Target). t.1) trace.targets (All-weaker (λ (t : ℕ × Target). (t.0 < RECORDERS) × IsTarget t.1) (λ (t : ℕ × Target). IsTarget t.1) (λ t is. is.1) trace.targets h.targets),
+  length-map trace.targets (λ (t : ℕ × Target). t.1),
+)
 
 -- ---- each draw
 

@@ -10,7 +10,7 @@ use Rattle.trace_model.specs.Text.{lines_of}
 use Rattle.trace_model.specs.Lines.{Line}
 use Rattle.trace_model.specs.LineForms.{line_of, version_of}
 use Rattle.trace_model.specs.LinesBefore.{Before, nothing_before, after_line}
-use Rattle.trace_model.specs.Reading.{Verdict, IsVerdict, cause_of, line_gives, fault_at, lines_give, body_gives, texts_give, reading, IsReading, IsTraceOf}
+use Rattle.trace_model.specs.Reading.{Verdict, IsVerdict, cause_of, line_gives, fault_at, lines_give, body_gives, texts_give, reading, IsTraceOf}
 use Rattle.trace_model.specs.LawfulPlay.{LawfulTrace}
 use Rattle.trace_model.proofs.FormLines.{line-is}
 use Rattle.trace_model.proofs.KeptLines.{LawfulBefore, nothing-lawful, line-kept}

@@ -1,5 +1,5 @@
 -- What holds of a trace that was read, and of its draws: each that isn't refused is a lawful draw.
-use Rattle.std.specs.Prelude.{◌≡◌, ℕ, ◌+◌, ◌<◌, ◌≤◌, List, [], ◌∷◌, ◌++◌, length, slice_get, Option, Some, IfSome}
+use Rattle.std.specs.Prelude.{◌≡◌, ℕ, ◌+◌, ◌<◌, ◌≤◌, List, [], ◌∷◌, ◌++◌, length, slice_get, Some, IfSome}
 use Rattle.std.specs.List.{All, fold, count_by}
 use Rattle.limits.specs.declared.TheConstants.{MODULES, PUSH_WORDS, VERTEX_BINDINGS, DESCRIPTOR_SETS, DESCRIPTOR_BINDINGS, ATTACHMENTS}
 use Rattle.spirv_model.specs.declared.execution_model.TheConstants.{VERTEX, FRAGMENT}
@@ -26,10 +26,11 @@ pub record IsModule (read : Words) : Type 0 where
   pub valid : IsValidList read
   pub words : All (λ inst. AreWords inst.words) read.insts
 
--- the module with this number is there, and its entry point has this execution model
+-- the module with this number is there and valid, and its entry point has this execution model
 pub record NamesModule (modules : List Words) (model number : ℕ) : Type 0 where
   pub read : Words
   pub there : slice_get modules number ≡ Some read
+  pub valid : IsValidList read
   pub stage : HasModel model read.insts
 
 -- the part is lawful, and names a module of its stage
