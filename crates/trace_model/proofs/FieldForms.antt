@@ -21,36 +21,17 @@ use Rattle.draw_model.specs.declared.framebuffer.TheConstants.{DEPTH_FORMAT}
 use Rattle.trace_model.specs.declared.whole.Version.{Version}
 use Rattle.trace_model.specs.declared.whole.Version.TheVariants.{First, Second}
 use Rattle.trace_model.specs.Text.{word_value}
-use Rattle.trace_model.specs.Fields.{each, at_most, some_of, range_value, below, flag_value, colon_parts, mask_value, samples_value, multisample_parts, multisample_value, format_names, format_value, colour_value}
+use Rattle.trace_model.specs.Fields.{range_value, below, flag_value, colon_parts, mask_value, samples_value, multisample_parts, multisample_value, format_names, format_value, colour_value}
 use Rattle.trace_model.specs.Lines.{LocatedAttribute}
 use Rattle.trace_model.specs.LibraryLines.{entry_count, filled_up, binding_parts, binding_value, attribute_parts, attribute_value, entry_parts, entry_value, entries_value, depth_parts, depth_value, attachment_parts, attachment_value}
-use Rattle.trace_model.proofs.FieldRanges.{after, range-within, below-is, samples-are, word-below, each-is}
-use Rattle.trace_model.proofs.LawfulLines.{all-of_each}
+use Rattle.trace_model.proofs.FieldRanges.{after, range-within, below-is, samples-are, word-below}
+use Rattle.trace_model.proofs.SeveralFields.{at_most-is}
 
 -- ---- several fields
 
 -- what the last step makes is the answer
 pub ends_in : {A : Type 0} (P : A → Type 0) (made x : A) → P made → Some made ≡ Some x → P x
 ends_in {A} P made x h e = let same : made ≡ x = cc e in subst P same h
-
-pub at_most-is : {A : Type 0} (count : ℕ) (read : List ℕ → Option A) (P : A → Type 0) → ((field : List ℕ) (x : A) → read field ≡ Some x → P x)
-    → (fields : List (List ℕ)) (xs : List A) → at_most count read fields ≡ Some xs → All P xs × (length xs ≤ count)
-at_most-is {A} count read P has fields xs h = by_test (nat_le (length fields) count) refl h
-  where
-    by_test : (few : Bool) → nat_le (length fields) count ≡ few → cond few (each read fields) None ≡ Some xs → All P xs × (length xs ≤ count)
-    by_test true is h =
-        let are = each-is read P has fields xs h in
-        let same : length xs ≡ length fields = are.1 in
-        (all-of_each P xs are.0, grind (arith, nat_tests, is, same))
-    by_test false is h = cc
-
-pub some_of-is : {A : Type 0} (count : ℕ) (read : List ℕ → Option A) (P : A → Type 0) → ((field : List ℕ) (x : A) → read field ≡ Some x → P x)
-    → (fields : List (List ℕ)) (xs : List A) → some_of count read fields ≡ Some xs → All P xs × (length xs ≤ count)
-some_of-is {A} count read P has fields xs h = by_test (nat_lt 0 (length fields)) h
-  where
-    by_test : (some : Bool) → cond some (at_most count read fields) None ≡ Some xs → All P xs × (length xs ≤ count)
-    by_test true h = at_most-is count read P has fields xs h
-    by_test false h = cc
 
 -- what is there has it, and so many places are there
 pub filled_up-is : {A : Type 0} (P : A → Type 0) (count : ℕ) (places : List (Option A)) → length places ≤ count → AllPresent P places

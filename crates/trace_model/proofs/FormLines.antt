@@ -29,8 +29,8 @@ use Rattle.trace_model.specs.RecorderLines.{push_form, vbuf_form, ubuf_form, sci
 use Rattle.trace_model.specs.LineForms.{LineForm, line_forms, line_of_fields, line_of}
 use Rattle.trace_model.specs.LawfulPlay.{IsScissor}
 use Rattle.trace_model.proofs.FieldRanges.{after, range-within, below-is, samples-are, word-below, each-is}
-use Rattle.trace_model.proofs.LawfulLines.{all-of_each, optional-is, exactly-is}
-use Rattle.trace_model.proofs.FieldForms.{ends_in, at_most-is, some_of-is, filled_up-is, mask-below, binding-is, IsLocated, attribute-is, entries-are, depth-is, multisample-is, format-within, attachment-is}
+use Rattle.trace_model.proofs.SeveralFields.{at_most-is, some_of-is, all-of_each, optional-is, exactly-is}
+use Rattle.trace_model.proofs.FieldForms.{ends_in, filled_up-is, mask-below, binding-is, IsLocated, attribute-is, entries-are, depth-is, multisample-is, format-within, attachment-is}
 
 -- ---- what each line is
 

@@ -1,3 +1,4 @@
+pub mod DrawSplits
 pub mod FieldForms
 pub mod FieldNumbers
 pub mod FieldRanges
@@ -5,7 +6,6 @@ pub mod FormLines
 pub mod JudgedReadings
 pub mod KeptLines
 pub mod LawfulDynamics
-pub mod LawfulLines
 pub mod LawfulParts
 pub mod LawfulPlays
 pub mod LawfulTraces
@@ -13,6 +13,7 @@ pub mod Meanings
 pub mod ModuleWords
 pub mod ReadingLaws
 pub mod Samples
+pub mod SeveralFields
 pub mod SpecIdLaws
 pub mod Targets
 pub mod TraceLimits
