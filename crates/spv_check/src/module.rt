@@ -55,6 +55,14 @@ impl Module {
         self.words.bound
     }
 
+    /// Its instructions and its bound.
+    pub fn into_words(self) -> Words
+        ensures { result ≡ self }
+    {
+        let Module { words, .. } = self;
+        words
+    }
+
     /// The structured body of its function.
     pub fn body(&self) -> &Body
         ensures { IsTreeOf self.now.insts result.now }

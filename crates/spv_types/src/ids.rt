@@ -77,13 +77,10 @@ impl Ids {
     }
 
     /// The offset of a structure's member, in bytes. Members are counted from 0.
-    pub fn offset(&self, id: u32, member: u32) -> Option<u32>
+    pub fn offset(&self, id: u32, member: usize) -> Option<u32>
         ensures { result ≡ offset_at self.now id member }
     {
-        self.decorations
-            .offsets
-            .get(&(id, member as usize))
-            .copied()
+        self.decorations.offsets.get(&(id, member)).copied()
     }
 
     /// The bytes from an element of an array to the next.

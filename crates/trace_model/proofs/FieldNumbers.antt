@@ -10,7 +10,7 @@ abbrev if_within : ℕ → ℕ → Option ℕ
 if_within limit n = cond (nat_le n limit) (Some n) None
 
 -- the number that digits go on with, without a limit
-abbrev value_onto : ℕ → List ℕ → Option ℕ
+abbrev pub value_onto : ℕ → List ℕ → Option ℕ
 value_onto n [] = Some n
 value_onto n (b ∷ bs) = decimal_digit b >>= λ digit. value_onto (10 * n + digit) bs
 
@@ -82,7 +82,7 @@ bounded n (b ∷ bs) v h = by_digit (decimal_digit b) refl h (λ digit is. bound
 
 -- ---- a field
 
-abbrev field_base : List ℕ → Option ℕ
+abbrev pub field_base : List ℕ → Option ℕ
 field_base [] = None
 field_base (b ∷ bs) = cond ((b == 48) && not (length bs == 0)) None (value_onto 0 (b ∷ bs))
 
@@ -102,7 +102,8 @@ base_within (b ∷ bs) v h = by_zero ((b == 48) && not (length bs == 0)) h
     by_zero true h = cc
     by_zero false h = let low = bounded 0 (b ∷ bs) v h in omega (arith, low)
 
-number-is_base : (field : List ℕ) → number_value field ≡ field_base field
+-- a number of any size, by its digits
+pub number-is_base : (field : List ℕ) → number_value field ≡ field_base field
 number-is_base field = by_base (10 ^ length field) field ∙ by_value (field_base field) (base_within field)
   where
     by_test : (v : ℕ) (test : Bool) → test ≡ true → cond test (Some v) None ≡ Some v

@@ -1,3 +1,13 @@
+pub mod BlockParts
+pub mod CappedNumbers
+pub mod Counts
+pub mod EachField
+pub mod Filled
+pub mod FormatNames
+pub mod GivenLines
+pub mod KnownNumbers
+pub mod Locations
+pub mod OneAnswer
 pub mod Rows
 pub mod SplitParts
 pub mod Values

@@ -1,1 +1,14 @@
 pub mod Answers
+pub mod Kept
+pub mod LibraryLines
+pub mod LineKinds
+pub mod Lines
+pub mod Located
+pub mod ModuleParts
+pub mod Numbers
+pub mod Parts
+pub mod RecorderLines
+pub mod Readings
+pub mod Steps
+pub mod Taking
+pub mod Values

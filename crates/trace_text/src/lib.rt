@@ -1,15 +1,37 @@
 //! The text of traces, and the text that a play prints.
 #![tactic(auto)]
 
+mod adding;
+mod adding_libraries;
+mod adding_steps;
+mod each;
+mod few;
 mod field_cursor;
+mod field_values;
 mod form;
+mod kept_steps;
+mod kept_targets;
+mod library_lines;
+mod line_kind;
+mod made;
+mod module_parts;
 mod modules;
+mod number;
 mod numbers;
+mod parts;
+mod places;
 mod print;
+mod reading;
+mod recorder_lines;
+mod setup_lines;
+mod taking;
 
 pub use form::read_trace;
 pub use print::print_target;
+pub use reading::{ReadFault, read_whole};
 pub use trace_model::{Cause, Serve, Trace, TraceFault};
 
 #[cfg(test)]
 mod tests;
+#[cfg(test)]
+mod whole_tests;

@@ -11,17 +11,25 @@ use trace_model::{Cause, SIDE_LIMIT};
 pub fn word_value(field: &[u8]) -> Result<u32, Cause>
     ensures { Gives (λ word. word) result (text.word_value field.now) }
 {
+    match hex_word(field) {
+        Some(word) => Ok(word),
+        None => Err(Cause::NotYet),
+    }
+}
+
+/// The same, where anything else is none.
+pub fn hex_word(field: &[u8]) -> Option<u32>
+    ensures { result ≡ text.word_value field.now }
+{
     if field.len() != 8 {
-        return Err(Cause::NotYet);
+        return None;
     }
     let mut value = 0;
     for b in field {
-        let Some(digit) = hex_value(*b) else {
-            return Err(Cause::NotYet);
-        };
+        let digit = hex_value(*b)?;
         value = 16 * value + digit;
     }
-    Ok(value)
+    Some(value)
 }
 
 fn hex_value(b: u8) -> Option<u32>
@@ -89,7 +97,8 @@ fn digits_value(limit: u32, field: &[u8]) -> Result<u32, Cause>
     Ok(value)
 }
 
-fn decimal_digit(b: u8) -> Option<u32>
+/// The value of a decimal digit.
+pub fn decimal_digit(b: u8) -> Option<u32>
     ensures value { result ≡ text.decimal_digit b }
     ensures digit { IfSome result (λ digit. digit < 10) }
 {

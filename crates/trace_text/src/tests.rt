@@ -4,7 +4,7 @@ use std::alloc::{AllocError, Global};
 use std::test::Fail;
 
 /// One point in colour 42 on a target of two pixels.
-const TRACE: &[u8] = b"\
+pub const TRACE: &[u8] = b"\
     gplt 1\n\
     code 07230203 00010000 00000000 0000000c 00000000 00020011 00000001 0003000e 00000000 00000001 \
     0006000f 00000000 0000000a 6e69616d 00000000 00000006 00040047 00000006 0000000b 00000000 00020013 \

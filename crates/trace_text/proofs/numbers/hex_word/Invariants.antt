@@ -1,6 +1,6 @@
 use Rattle.std.proofs.Common.{◌≡◌, ◌^◌, ◌<◌, length, drop}
 use Rattle.trace_model.specs.Text.{hex_onto}
-use Rattle.trace_text.proofs.numbers.word_value.Given as goal
+use Rattle.trace_text.proofs.numbers.hex_word.Given as goal
 
 abbrev pub invariant-loop-b : goal.invariant-loop-b
 invariant-loop-b l = record {

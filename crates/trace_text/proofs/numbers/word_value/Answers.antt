@@ -1,7 +1,0 @@
-use Rattle.std.proofs.Common.{arith}
-use Rattle.trace_text.proofs.Values.{hex_fits}
-use Rattle.trace_text.proofs.numbers.word_value.Goals as goal
-
-pub overflow_add-value : goal.overflow_add-value
-overflow_add-value c =
-    omega (arith, hex_fits c.loop-b.value c.in-Some.digit c.loop-b.b-index c.loop-b.invariant.small c.in-Some.ensures.digit (omega arith))

@@ -1,0 +1,7 @@
+use Rattle.std.proofs.Common.{arith}
+use Rattle.trace_text.proofs.Filled.{filled-is}
+use Rattle.trace_text.proofs.places.sets_of.Goals as goal
+
+pub returns : goal.returns
+returns c =
+    filled-is c.args.masks.now c.loop-i.sets _ c.requires c.loop-i.invariant.count (λ k d within. c.loop-i.invariant.filled k d (omega (arith, within)))
