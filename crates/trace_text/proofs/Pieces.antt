@@ -42,8 +42,8 @@ pub line_done : (text : List ℕ → List ℕ) (separator i count size : ℕ) (r
 line_done text separator i count size rest words old printed new all is new_is =
     let n : count - i ≡ 0 = omega arith in
     let e : printed ≡ printed ++ joined text separator i (pieces (count - i) size rest) =
-      sym (ap (λ (m : ℕ). printed ++ joined text separator i (pieces m size rest)) n ∙ ap (λ (t : List ℕ). printed ++ t) (joined_none text separator i)
-      ∙ append-nil printed) in
+    sym (ap (λ (m : ℕ). printed ++ joined text separator i (pieces m size rest)) n ∙ ap (λ (t : List ℕ). printed ++ t) (joined_none text separator i)
+    ∙ append-nil printed) in
     new_is ∙ ap (λ (t : List ℕ). t ++ codes "\n") (e ∙ is) ∙ append_assoc old (joined text separator 0 (pieces count size words)) (codes "\n")
 
 -- the same where no separator stands between

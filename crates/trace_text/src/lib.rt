@@ -40,6 +40,8 @@ pub use reading::{ReadFault, read_whole};
 pub use trace_model::{Cause, Serve, Trace, TraceFault};
 
 #[cfg(test)]
+mod print_tests;
+#[cfg(test)]
 mod tests;
 #[cfg(test)]
 mod whole_tests;

@@ -3,6 +3,7 @@ ghost use Rattle.std.specs.Prelude.{◌≡◌, ◌++◌, IfOk, OnOk};
 ghost use Rattle.std.specs.List.{flat_map};
 ghost use Rattle.std.specs.Fmt.{decimal};
 ghost use Rattle.trace_model.specs.PlayText as spec;
+ghost use Rattle.trace_model.specs.Playing.{final_targets, refused_draws};
 ghost use Rattle.trace_model.specs.declared.whole.Trace as trace;
 ghost use Rattle.trace_text.specs.Printed.{pipe_line, pipe_lines, pipe_rules};
 
@@ -14,19 +15,33 @@ use std::alloc::{AllocError, Global};
 
 /// What a play prints: the targets as they are after all draws, and the refused draws, each by its number over the whole
 /// trace, with the rule that it breaks.
+#[tactic(auto, unfolding(trace_model::specs::PlayText::play_text))]
 pub fn play_text(
     alloc: Global,
     targets: &Targets,
     refused: &[(u32, Rule)],
 ) -> Result<Vec<u8>, AllocError>
-    ensures { IfOk result (λ text. text.items ≡ spec.result_text targets.now.list refused.now) }
+    ensures lines { IfOk result
+        (λ text. text.items ≡ spec.result_text targets.now.list refused.now) }
+    ensures plays { (trace : trace.Trace) → targets.now ≡ final_targets trace
+        → refused.now ≡ refused_draws trace
+        → IfOk result (λ text. text.items ≡ spec.play_text trace) }
 {
     let mut text = Vec::new(alloc);
     push_targets(&mut text, targets.list.as_slice())?;
-    for (draw, rule) in refused {
-        push_refused(&mut text, *draw, *rule)?;
-    }
+    push_refusals(&mut text, refused)?;
     Ok(text)
+}
+
+/// Pushes the lines of refused draws.
+fn push_refusals(text: &mut Vec<u8>, refused: &[(u32, Rule)]) -> Result<(), AllocError>
+    ensures { OnOk result (text.new.items ≡ text.old.items
+        ++ flat_map spec.refused_text refused.now) }
+{
+    for (draw, rule) in refused {
+        push_refused(text, *draw, *rule)?;
+    }
+    Ok(())
 }
 
 /// Pushes the line of a refused draw.
@@ -83,10 +98,7 @@ pub fn links_text(
 }
 
 /// Pushes the lines of all pipes.
-fn push_pipes(
-    text: &mut Vec<u8>,
-    links: &[(Option<Rule>, Option<Rule>)],
-) -> Result<(), AllocError>
+fn push_pipes(text: &mut Vec<u8>, links: &[(Option<Rule>, Option<Rule>)]) -> Result<(), AllocError>
     ensures { OnOk result (text.new.items ≡ text.old.items ++ pipe_lines links.now) }
 {
     let mut pipe = 0;
