@@ -67,9 +67,9 @@ results_apart program at place size within also is =
     elim (cases_lt at place) [
       | inl early ↦ inl (let a = frame_apart program at place early (omega (arith, within)) in omega (arith, a, is))
       | inr late ↦ inr (elim (cases_lt place at) [
-          | inl behind ↦ (let a = frame_apart program place at behind (omega (arith, also)) in omega (arith, a))
-          | inr same ↦ (let e : at ≡ place = omega (arith, late, same) in let f = ap (frame_place program) e in omega (arith, f))
-        ])
+        | inl behind ↦ (let a = frame_apart program place at behind (omega (arith, also)) in omega (arith, a))
+        | inr same ↦ (let e : at ≡ place = omega (arith, late, same) in let f = ap (frame_place program) e in omega (arith, f))
+      ])
     ]
 
 -- an id that has a type and a value is an operand

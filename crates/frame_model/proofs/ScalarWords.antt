@@ -457,7 +457,7 @@ by_components program cs xs ys value alike is =
     let long : length (in_frame program (Composite cs)) ≡ length (in_frame program value) = ap length of_condition ∙ (s.long ∙ sym (ap length of_value)) in
     record {
       each = λ same. of_value ∙ (s.words ∙ (ap (λ (l : List ℕ). chosen_words l (values_words (list_of xs)) (values_words (list_of ys))) (sym of_condition)
-      ∙ (ap (λ (l : List ℕ). chosen_words (in_frame program (Composite cs)) l (values_words (list_of ys))) (sym of_first) ∙ ap (chosen_words (in_frame program (Composite cs)) (in_frame program (Composite xs))) (sym of_second))));
+          ∙ (ap (λ (l : List ℕ). chosen_words (in_frame program (Composite cs)) l (values_words (list_of ys))) (sym of_first) ∙ ap (chosen_words (in_frame program (Composite cs)) (in_frame program (Composite xs))) (sym of_second))));
       one = λ isnt. absurd (isnt long);
       whole = λ isnt. absurd (isnt long);
     }

@@ -1,1 +1,14 @@
+mod BoxFragments
+mod CanvasLaws
+mod DrawLaws
+mod DrawRules
+mod FewInsts
+mod Fixtures
+mod Outputs
+mod PrimitiveLaws
 mod Ranges
+mod SampleLaws
+mod SceneLaws
+mod Shades
+mod WholeLaws
+mod WordLists

@@ -1,0 +1,4 @@
+pub mod Draws
+pub mod Modules
+pub mod SampleRules
+pub mod Scenes

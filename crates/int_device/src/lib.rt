@@ -1,11 +1,27 @@
 //! The device: what a draw leaves in a target.
 #![tactic(auto)]
 
+mod assembled;
+mod canvas;
+#[cfg(test)]
+mod draw_tests;
+mod drawing;
+mod fragment;
+mod primitive;
+mod sample_rules;
+mod samples;
+mod shading;
+mod target_samples;
+mod unit;
+mod vertices;
+pub mod whole_draw;
+
 ghost use Rattle.std.specs.Prelude.{◌≡◌, ◌<◌, [], ◌∷◌, ◌++◌, IfOk, OnOk};
 ghost use Rattle.state_model.specs.declared.parts.Topology.TheVariants.{Points};
 ghost use Rattle.draw_model.specs.Coverage.{is_covered};
 ghost use Rattle.draw_model.specs.Draw.{HasLimitedSides, is_drawn, writes, pixel_after, row_after, image};
 
+pub use crate::unit::Unit;
 pub use draw_model::Target;
 use limits::{COMPONENTS, MAX_SIDE};
 use prerast_lib::{Topology, covers};

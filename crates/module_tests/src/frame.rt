@@ -1,7 +1,7 @@
 //! What sample modules have in common.
 
-use spirv_model::op;
-use std::alloc::AllocError;
+use spirv_model::{MAGIC, VERSION, op};
+use std::alloc::{AllocError, Global};
 
 /// The first eleven instructions of fragment modules that write a 32-bit unsigned integer, 3, at location 0, by the variable 5. The
 /// constant 11 is 0.
@@ -27,4 +27,15 @@ pub fn add(words: &mut Vec<u32>, insts: &[(u16, &[u32])]) -> Result<(), AllocErr
         words.extend_from_slice(operands)?;
     }
     Ok(())
+}
+
+/// The words of a module with these instructions, each of at most 100 words after its first.
+pub fn words_of(
+    alloc: Global,
+    insts: &[(u16, &[u32])],
+    bound: u32,
+) -> Result<Vec<u32>, AllocError> {
+    let mut words = Vec::from_slice(alloc, &[MAGIC, VERSION, 0, bound, 0])?;
+    add(&mut words, insts)?;
+    Ok(words)
 }

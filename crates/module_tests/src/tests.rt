@@ -3,23 +3,16 @@ use crate::bad_modules::{
     OPERAND_OF_RETURN, TYPE_OUT_OF_BOUND, UNIFORM_COORDINATE, UNKNOWN, VARIABLE_BEHIND_RETURN,
     VARIABLE_OF_AN_INTEGER,
 };
-use crate::frame::add;
+use crate::frame::words_of;
 use crate::samples::{LOOP_MODULE, NAMES_MODULE, SELECTION_MODULE};
-use spirv_model::{MAGIC, VERSION, Words, WordsFault};
+use spirv_model::{Words, WordsFault};
 use spv_tree::{Block, End, Node, Run, TreeFault, flatten, tree_of};
 use spv_types::{Meaning, ids_of};
 use spv_words::{read_module, write_module};
-use std::alloc::{AllocError, Global};
+use std::alloc::Global;
 use std::process::Abort;
 use std::test::Fail;
 use valid_model::TypeFault;
-
-/// The words of a module with these instructions, each of at most 100 words after its first.
-fn words_of(alloc: Global, insts: &[(u16, &[u32])], bound: u32) -> Result<Vec<u32>, AllocError> {
-    let mut words = Vec::from_slice(alloc, &[MAGIC, VERSION, 0, bound, 0])?;
-    add(&mut words, insts)?;
-    Ok(words)
-}
 
 fn module(alloc: Global, insts: &[(u16, &[u32])], bound: u32) -> Result<Words, Fail> {
     let words = words_of(alloc, insts, bound)?;

@@ -30,7 +30,8 @@ pub fn covers(topology: Topology, corners: &[[u32; COMPONENTS]; 3], x: u32, y: u
     }
 }
 
-fn position_of(words: &[u32; COMPONENTS]) -> Position
+/// The place of a corner with these words.
+pub fn position_of(words: &[u32; COMPONENTS]) -> Position
     ensures { result ≡ corner_position words.now }
 {
     Position {
@@ -39,8 +40,9 @@ fn position_of(words: &[u32; COMPONENTS]) -> Position
     }
 }
 
+/// Whether it is within the guard band.
 #[tactic(auto, unfolding(draw_model::specs::Coverage::is_guarded))]
-fn is_guarded(p: Position) -> bool
+pub fn is_guarded(p: Position) -> bool
     ensures value { result ≡ is_guarded p }
     ensures fact { IsTrue result ↔ IsGuarded p }
 {
@@ -102,8 +104,9 @@ fn difference(a: i64, b: i64) -> i64
     a - b
 }
 
+/// Twice the signed area of the triangle p, q, at.
 #[tactic(auto, unfolding(draw_model::specs::Coverage::edge_value))]
-fn edge_value(p: Position, q: Position, at: Position) -> i64
+pub fn edge_value(p: Position, q: Position, at: Position) -> i64
     requires p { IsGuarded p }
     requires q { IsGuarded q }
     requires at { IsGuarded at }

@@ -2,11 +2,15 @@
 #![tactic(auto)]
 
 mod coverage;
+mod culling;
+mod spans;
 
 ghost use Rattle.std.specs.Prelude.{◌≡◌};
 ghost use Rattle.draw_model.specs.Assembly.{first_vertex};
 
 pub use coverage::covers;
+pub use culling::{facing, is_culled};
+pub use spans::{columns_of, rows_of};
 pub use state_model::{Iface, PrerastPart, Topology};
 
 /// A pre-rasterization shaders library: its part, and its module's interface.

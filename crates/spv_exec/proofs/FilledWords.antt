@@ -56,9 +56,9 @@ pub adds_word : (origin : Origin) (offsets : List ℕ) (start at index : ℕ) (o
     → new ≡ fills ++ fill ∷ [] → AddsWords origin offsets start at old fills → AddsWords origin offsets start (at + 1) old new
 adds_word origin offsets start at index old fills new fill low some is_at is_index is_origin is_new adds =
     let more : (inputs : Inputs) (buffers : Buffers) (other : ℕ) → filled inputs buffers new other ≡ filled_by inputs buffers other (filled inputs buffers fills other) fill
-        = λ inputs buffers other. ap (λ (l : List Fill). filled inputs buffers l other) is_new ∙ filled_one_more inputs buffers fills fill other in
+    = λ inputs buffers other. ap (λ (l : List Fill). filled inputs buffers l other) is_new ∙ filled_one_more inputs buffers fills fill other in
     let other_than : (inputs : Inputs) (buffers : Buffers) (other : ℕ) → at ≢ other → filled inputs buffers new other ≡ filled inputs buffers fills other
-        = λ inputs buffers other isnt. more inputs buffers other ∙ unchosen fill.at other (origin_word inputs buffers fill.origin fill.index) (filled inputs buffers fills other) (λ e. isnt (sym is_at ∙ e)) in
+    = λ inputs buffers other isnt. more inputs buffers other ∙ unchosen fill.at other (origin_word inputs buffers fill.origin fill.index) (filled inputs buffers fills other) (λ e. isnt (sym is_at ∙ e)) in
     record {
       before = λ inputs buffers other less. other_than inputs buffers other (λ e. omega (arith, e, less, low)) ∙ adds.before inputs buffers other less;
       held = λ inputs buffers k less clear. elim (cases_lt (start + k) at) [

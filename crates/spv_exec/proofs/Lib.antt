@@ -5,6 +5,7 @@ pub mod ComponentResults
 pub mod CompositeRuns
 pub mod DefineSteps
 pub mod DefinedValues
+pub mod DefinedWords
 pub mod FilledVariables
 pub mod FilledWords
 pub mod FirstOutputs
@@ -13,6 +14,7 @@ pub mod LargeOpcodes
 pub mod MachineSteps
 pub mod ModuleVariables
 pub mod OpcodeEffects
+pub mod OperationWords
 pub mod OriginWords
 pub mod OutputsLeft
 pub mod PartAnswers

@@ -134,7 +134,7 @@ variable_class words v place within is =
     let inst = inst_at words.insts place in
     let keeps = (keeps_rules words v.sound place within).types in
     let of_class = at_op (λ (i : Inst). breaks_types (known_before words.insts place) i ≡ false → is_pointer_of (slice_index i.words 2) (meaning_in (known_before words.insts place (slice_index i.words 0))) ≡ true) inst op.VARIABLE is
-        (unbroken (known_before words.insts place) inst.words) keeps in
+    (unbroken (known_before words.insts place) inst.words) keeps in
     let p = pointer_by (meaning_in (known_before words.insts place (word_at 0 inst))) (word_at 2 inst) of_class in
     meaning_stored words.insts (word_at 0 inst) (word_at 2 inst) p.0 (definition words.insts (word_at 0 inst)) refl (stays_known words.insts place (word_at 0 inst) (Pointer (word_at 2 inst) p.0) _ refl p.1)
 

@@ -41,9 +41,9 @@ buffer_by inputs buffers offsets at None None = no_word (slice_get offsets at)
 
 by_class : (inputs : Inputs) (buffers : Buffers) (offsets : List ℕ) (at : ℕ) (number location set binding : Option ℕ) (i u p : Bool)
     → (if i then input_word inputs number location at
-       else if u then option_word (λ offset. buffer_word buffers (bound_buffer inputs set binding) (offset / 4)) (slice_get offsets at)
-       else if p then option_word (λ offset. slice_index inputs.push (offset / 4)) (slice_get offsets at)
-       else 0)
+    else if u then option_word (λ offset. buffer_word buffers (bound_buffer inputs set binding) (offset / 4)) (slice_get offsets at)
+    else if p then option_word (λ offset. slice_index inputs.push (offset / 4)) (slice_get offsets at)
+    else 0)
     ≡ word_by inputs buffers offsets at (if i then input_origin number location else if u then bound_origin (both set binding) else if p then Push else Cleared)
 by_class inputs buffers offsets at number location set binding true u p = input_by inputs buffers offsets at number location
 by_class inputs buffers offsets at number location set binding false true p = buffer_by inputs buffers offsets at set binding

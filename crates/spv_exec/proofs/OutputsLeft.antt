@@ -61,7 +61,7 @@ component_is words v memory held shows inst output is k =
     let count : output.count ≡ size_in (held_layout program (word_at 1 there)) = is.count ∙ sym (ap (variable_words program) is.at) ∙ size in
     ap (λ (n : ℕ). if nat_lt k n then slice_index memory (output.start + k) else 0) count
     ∙ by_less k (size_in (held_layout program (word_at 1 there))) (slice_index memory (output.start + k)) (held (word_at 1 there) k)
-        (λ less. ap (λ (n : ℕ). slice_index memory (n + k)) is.start ∙ shows.shows (word_at 1 there) is.place k m.there (omega (arith, less, size)))
+    (λ less. ap (λ (n : ℕ). slice_index memory (n + k)) is.start ∙ shows.shows (word_at 1 there) is.place k m.there (omega (arith, less, size)))
     ∙ ap (λ (i : Inst). component_of program held (slice_index i.words 1) k) is.at
 
 components_are : (words : Words) → IsValidList words → (memory : List ℕ) (held : Memory) → ShowsMemory (program_of words.insts) memory held → (found : Option Inst) (output : Option Output) → IsOutput (program_of words.insts) found output

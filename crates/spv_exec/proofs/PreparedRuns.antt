@@ -2,6 +2,7 @@
 use Rattle.std.proofs.Common.{◌≡◌, ℕ, ◌+◌, ◌<◌, ◌≤◌, ◌==◌, Bool, true, false, nat_lt, if◌then◌else◌, List, [], ◌∷◌, length, take, refl, ap, sym, ◌∙◌, subst, arith, Option, None, Some}
 use Rattle.std.specs.Prelude.{map, replicate}
 use Rattle.std.proofs.Math.Path.{fun_ext}
+use Rattle.std.proofs.lemmas.List.{length-replicate}
 use Rattle.std.specs.Option.{option_map, option_and_then, unwrap_or}
 use Rattle.std.specs.List.{range_with_len}
 use Rattle.limits.specs.declared.TheConstants.{COMPONENTS, LOCATIONS}
@@ -12,10 +13,11 @@ use Rattle.check_model.specs.Validity.{IsValidList}
 use Rattle.stage_model.specs.declared.outcome.Kind.{Kind}
 use Rattle.stage_model.specs.declared.outcome.Kind.TheVariants.{Done, Killed, Lost}
 use Rattle.stage_model.specs.declared.outcome.Ended.{Ended}
+use Rattle.spirv_model.specs.declared.decoration.TheConstants.{LOCATION}
 use Rattle.stage_model.specs.Program.{Program, program_of, held_layout}
 use Rattle.stage_model.specs.Start.{Memory, first_memory}
 use Rattle.stage_model.specs.Machine.{State, Machine, run}
-use Rattle.stage_model.specs.Stage.{Given, Outcome, size_in, start_at, first_label, components_left, position_left, slots_left, left_by, outcome_of, enough_steps, stage, ended_of}
+use Rattle.stage_model.specs.Stage.{Given, Outcome, size_in, start_at, first_label, components_left, position_left, slots_left, left_by, output_with, outcome_of, enough_steps, stage, ended_of}
 use Rattle.typed_model.proofs.NeverStuck.{never_stuck}
 use Rattle.typed_model.proofs.RunningStart.{first_label_is, running_start, starts_with_label}
 use Rattle.frame_model.specs.Shown.{ShowsMemory, IsFrame}
@@ -33,7 +35,6 @@ first_there words v found place is whole =
 
 -- ---- what is left without memory
 
-
 zero_or : (b : Bool) → ◌≡◌ {A = ℕ} (if b then 0 else 0) 0
 zero_or true = refl
 zero_or false = refl
@@ -48,7 +49,7 @@ no_position program = no_components program _
 
 no_slots : (program : Program) → slots_left program (λ _ _. 0) ≡ replicate LOCATIONS (replicate COMPONENTS 0)
 unfolding slots_left
-no_slots program = ap (λ (f : ℕ → List ℕ). map f (range_with_len 0 LOCATIONS)) (fun_ext (λ location. no_components program _))
+no_slots program = ap (λ (f : ℕ → List ℕ). map f (range_with_len 0 LOCATIONS)) (fun_ext (λ location. no_components program (output_with program LOCATION location)))
 
 abbrev nothing : Kind → ℕ → Ended
 nothing kind work = record { kind = kind; position = replicate COMPONENTS 0; slots = replicate LOCATIONS (replicate COMPONENTS 0); work = work }
@@ -133,3 +134,6 @@ outcome_is words given first e end memory result so is =
     ∙ ap (λ (r : Ended). Some r)
     (ap (λ (k : Kind). left_so (program_of words.insts) (record { kind = k; work = e.state.steps }) e.state.memory) (sym so.kind_is)
     ∙ (ap (λ (n : ℕ). left_so (program_of words.insts) (record { kind = end.kind; work = n }) e.state.memory) so.work ∙ sym is))
+
+pub so_many : (words : List ℕ) (count : ℕ) → words ≡ replicate count 0 → length words ≡ count
+so_many words count is = ap (λ (l : List ℕ). length l) is ∙ length-replicate count 0

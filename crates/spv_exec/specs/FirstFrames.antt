@@ -1,14 +1,14 @@
 -- The frame where a module's function begins.
-use Rattle.std.specs.Prelude.{◌≡◌, ℕ, ◌<◌, ◌==◌, Bool, ◌||◌, if◌then◌else◌, List, [], ◌∷◌, take, Option, None, Some}
+use Rattle.std.specs.Prelude.{◌≡◌, ℕ, ◌<◌, ◌==◌, Bool, ◌||◌, if◌then◌else◌, List, [], ◌∷◌, take, slice_index, Option, None, Some}
 use Rattle.spirv_model.specs.declared.module.Inst.{Inst}
 use Rattle.spirv_model.specs.declared.op.TheConstants as op
 use Rattle.state_model.specs.declared.parts.Entry.{Entry}
 use Rattle.state_model.specs.declared.parts.SpecValues.{SpecValues}
 use Rattle.valid_model.specs.Definitions.{definition, inst_at}
-use Rattle.stage_model.specs.Value.{Value}
+use Rattle.stage_model.specs.Value.{Value, words_of}
 use Rattle.stage_model.specs.Program.{Program, program_of}
 use Rattle.stage_model.specs.Start.{constant_of, defined_by}
-use Rattle.frame_model.specs.Frame.{in_frame}
+use Rattle.frame_model.specs.Frame.{frame_place, in_frame}
 use Rattle.frame_model.specs.Shown.{Shows, IsFrame}
 
 -- it shows the values that the module's level defines, in front of the first label
@@ -50,3 +50,14 @@ DefinesWord insts entries place word =
 abbrev pub entry_value : Option Entry → ℕ → Option ℕ
 entry_value None id = None
 entry_value (Some entry) id = if entry.id == id then Some entry.value else None
+
+-- the value of an id is one word, which a frame shows
+pub record IsShownWord (insts : List Inst) (frame : List ℕ) (id : ℕ) (value : Value) : Type 0 where
+  pub place : ℕ
+  pub defined : definition insts id ≡ Some place
+  pub word : words_of value ≡ Some (slice_index frame (frame_place (program_of insts) place) ∷ [])
+
+abbrev pub AreShownWords : List Inst → List ℕ → List ℕ → List Value → Type 0
+AreShownWords insts frame [] [] = Unit {0}
+AreShownWords insts frame (id ∷ ids) (value ∷ values) = IsShownWord insts frame id value × AreShownWords insts frame ids values
+AreShownWords insts frame ids values = ⊥

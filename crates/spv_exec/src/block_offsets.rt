@@ -80,12 +80,9 @@ fn members_offsets(
         ≡ program.members_offsets (program_of of.now.insts) block 0 members.now) }
 {
     let mut offsets = Vec::new(alloc);
-    let Ok(count) = u32::try_from(members.len()) else {
-        return Err(AllocError);
-    };
-    for member in 0..count {
+    for member in 0..members.len() {
         let by = offset(of, block, member).unwrap_or(0);
-        add_member(&mut offsets, of, members[member as usize], by)?;
+        add_member(&mut offsets, of, members[member], by)?;
     }
     Ok(offsets)
 }

@@ -47,6 +47,10 @@ pub fn target(of: &ModuleFrame<'_>, place: usize, frame: &[u32]) -> u32
                 inst.word(1)
             }
         }
-        _ => target_for(word_of(of, inst.word(0), frame), inst.word(1), inst.words_from(2)),
+        _ => target_for(
+            word_of(of, inst.word(0), frame),
+            inst.word(1),
+            inst.words_from(2),
+        ),
     }
 }

@@ -1,11 +1,14 @@
-ghost use Rattle.std.specs.Prelude.{◌≡◌, ◌+◌, ◌<◌, false, Some, IfOk, replicate, length};
+ghost use Rattle.spirv_model.specs.Operands.{word_at, words_from};
+ghost use Rattle.std.specs.Prelude.{◌≡◌, ◌+◌, ◌<◌, false, true, List, [], ◌∷◌, Some, IfOk, replicate, length};
 ghost use Rattle.stage_model.specs.Program.{program_of};
 ghost use Rattle.stage_model.specs.Stage.{first_label};
 ghost use Rattle.stage_model.specs.Start as start;
+ghost use Rattle.std.specs.Option.{unwrap_or};
+ghost use Rattle.stage_model.specs.Value.{Value, word_of_truth, words_of};
 ghost use Rattle.typed_model.specs.Modules.{IsFront};
 ghost use Rattle.valid_model.specs.Definitions.{inst_at};
 ghost use Rattle.spv_exec.specs.FirstFrames as first;
-ghost use Rattle.spv_exec.specs.FirstFrames.{DefinesWord, IsDefined, IsFirstFrame};
+ghost use Rattle.spv_exec.specs.FirstFrames.{AreShownWords, DefinesWord, IsDefined, IsFirstFrame};
 
 use crate::accesses::{clear_words, put, word_of};
 use crate::composites::gather_words;
@@ -107,42 +110,80 @@ fn defines_composite(op: u16) -> bool
 /// The word of a value that is one.
 fn defined_word(of: &ModuleFrame<'_>, place: usize, values: &SpecValues, frame: &[u32]) -> u32
     requires within { place < length of.now.insts }
+    requires value { first.defines_value (inst_at of.now.insts place).op ≡ true }
     requires zeros { first.defines_zeros (inst_at of.now.insts place).op ≡ false }
     requires composite { first.defines_composite (inst_at of.now.insts place).op ≡ false }
     requires before { IsDefined of.now.insts values.now place frame.now }
     ensures { DefinesWord of.now.insts values.now place result }
 {
+    let _module = of.module();
     let inst = of.inst(place);
-    let id = inst.word(1);
-    match inst.op {
-        op::CONSTANT_TRUE => 1,
-        op::CONSTANT => inst.word(2),
-        op::SPEC_CONSTANT_TRUE => u32::from(specialized(of, values, id).unwrap_or(1) != 0),
-        op::SPEC_CONSTANT_FALSE => u32::from(specialized(of, values, id).unwrap_or(0) != 0),
-        op::SPEC_CONSTANT => specialized(of, values, id).unwrap_or(inst.word(2)),
-        op::SPEC_CONSTANT_OP => operation_word(of, inst, frame),
-        op::VARIABLE => of.memory_place(place) as u32,
-        _ => 0,
+    if inst.op == op::VARIABLE {
+        return of.memory_place(place) as u32;
+    }
+    if inst.op == op::CONSTANT {
+        return inst.word(2);
+    }
+    if inst.op == op::CONSTANT_TRUE {
+        return 1;
+    }
+    if inst.op == op::SPEC_CONSTANT_TRUE {
+        return truth_word(of, values, inst.word(1), 1);
+    }
+    if inst.op == op::SPEC_CONSTANT_FALSE {
+        return truth_word(of, values, inst.word(1), 0);
+    }
+    if inst.op == op::SPEC_CONSTANT {
+        return number_word(of, values, inst.word(1), inst.word(2));
+    }
+    if inst.op == op::SPEC_CONSTANT_OP {
+        return operation_word(of, inst, frame);
+    }
+    0
+}
+
+/// The word of a truth value that specialization may set.
+fn truth_word(of: &ModuleFrame<'_>, values: &SpecValues, id: u32, default: u32) -> u32
+    ensures { result ≡ word_of_truth (start.is_nonzero
+        (unwrap_or (start.specialized (program_of of.now.insts) values.now id) default)) }
+{
+    if specialized(of, values, id).unwrap_or(default) == 0 {
+        0
+    } else {
+        1
     }
 }
 
+/// The word of a number that specialization may set.
+fn number_word(of: &ModuleFrame<'_>, values: &SpecValues, id: u32, default: u32) -> u32
+    ensures { result ≡ unwrap_or (start.specialized (program_of of.now.insts) values.now id) default }
+{
+    specialized(of, values, id).unwrap_or(default)
+}
+
 /// The word of an OpSpecConstantOp.
-fn operation_word(of: &ModuleFrame<'_>, inst: &Inst, frame: &[u32]) -> u32 {
+fn operation_word(of: &ModuleFrame<'_>, inst: &Inst, frame: &[u32]) -> u32
+    ensures { (read : List Value) (value : Value) → AreShownWords of.now.insts frame.now (words_from 3 inst.now) read
+        → start.scalar_value (word_at 2 inst.now) read ≡ Some value → words_of value ≡ Some (result ∷ []) }
+{
     let opcode = inst.word(2);
     let ids = inst.words_from(3);
-    match *ids {
-        [a] => scalar_word(opcode, &[word_of(of, frame, a)]),
-        [a, b] => scalar_word(opcode, &[word_of(of, frame, a), word_of(of, frame, b)]),
-        [a, b, c] => {
-            let words = [
-                word_of(of, frame, a),
-                word_of(of, frame, b),
-                word_of(of, frame, c),
-            ];
-            scalar_word(opcode, &words)
-        }
-        _ => 0,
+    if ids.len() == 1 {
+        return scalar_word(opcode, &[word_of(of, frame, ids[0])]);
     }
+    if ids.len() == 2 {
+        let words = [word_of(of, frame, ids[0]), word_of(of, frame, ids[1])];
+        return scalar_word(opcode, &words);
+    }
+    if ids.len() == 3 {
+        let words = [
+            word_of(of, frame, ids[0]),
+            word_of(of, frame, ids[1]),
+            word_of(of, frame, ids[2]),
+        ];
+        return scalar_word(opcode, &words);
+    }
+    0
 }
 
 /// The word that specialization gives an id, by its SpecId.

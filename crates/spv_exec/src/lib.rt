@@ -28,3 +28,5 @@ pub use std::alloc::AllocError as Memory;
 
 #[cfg(test)]
 mod module_frame_tests;
+#[cfg(test)]
+mod prepared_tests;

@@ -60,7 +60,7 @@ pub fn spec_id(of: &ModuleFrame<'_>, id: u32) -> Option<u32>
 
 /// The offset of a structure's member, in bytes.
 #[tactic(auto, unfolding(stage_model::specs::Program::program_of))]
-pub fn offset(of: &ModuleFrame<'_>, id: u32, member: u32) -> Option<u32>
+pub fn offset(of: &ModuleFrame<'_>, id: u32, member: usize) -> Option<u32>
     ensures { result ≡ (program_of of.now.insts).offset id member }
 {
     of.module().ids().offset(id, member)

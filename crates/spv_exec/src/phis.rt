@@ -33,15 +33,28 @@ fn take_phi(of: &ModuleFrame<'_>, place: usize, before: u32, frame: &[u32], inco
     ensures { (values : Values) → IsFrame (program_of of.now.insts) frame.now
         → IsFrame (program_of of.now.insts) incoming.old
         → (r : PhiReads (program_of of.now.insts) frame.now values before place)
-        → incoming.new ≡ written incoming.old (frame_place (program_of of.now.insts) place) (in_frame (program_of of.now.insts) r.value) }
+        → incoming.new ≡ written incoming.old (frame_place (program_of of.now.insts) place)
+        (in_frame (program_of of.now.insts) r.value) }
 {
     if let Some(id) = paired(of.inst(place).words_from(2), before) {
-        copy_words(frame, of.operand(id), of.frame_words(place), incoming, of.frame_place(place));
+        copy_words(
+            frame,
+            of.operand(id),
+            of.frame_words(place),
+            incoming,
+            of.frame_place(place),
+        );
     }
 }
 
 /// Copies what the phis from a place on take, coming from a block, to their results' places in `incoming`.
-pub fn take_phis(of: &ModuleFrame<'_>, first: usize, before: u32, frame: &[u32], incoming: &mut [u32])
+pub fn take_phis(
+    of: &ModuleFrame<'_>,
+    first: usize,
+    before: u32,
+    frame: &[u32],
+    incoming: &mut [u32],
+)
     requires { first ≤ length of.now.insts }
     ensures { (values : Values) → IsFrame (program_of of.now.insts) frame.now
         → IsFrame (program_of of.now.insts) incoming.old
@@ -64,7 +77,8 @@ pub fn run_phi(of: &ModuleFrame<'_>, place: usize, incoming: &[u32], frame: &mut
     ensures { (value : Value) → IsFrame (program_of of.now.insts) frame.old
         → IsFrame (program_of of.now.insts) incoming.now
         → StandsAt (program_of of.now.insts) incoming.now place value
-        → frame.new ≡ written frame.old (frame_place (program_of of.now.insts) place) (in_frame (program_of of.now.insts) value) }
+        → frame.new ≡ written frame.old (frame_place (program_of of.now.insts) place)
+        (in_frame (program_of of.now.insts) value) }
 {
     let at = of.frame_place(place);
     copy_words(incoming, at, of.frame_words(place), frame, at);

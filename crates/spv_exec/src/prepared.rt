@@ -39,7 +39,8 @@ impl<'m> Model for Prepared<'m> {
 
     ghost view = { λ p. record { words = p.of; entries = p.entries } };
 
-    ghost invariant = { λ p. IsPrepared p.of p.variables p.entries p.first p.constants.items p.frame.items p.incoming.items p.memory.items };
+    ghost invariant = { λ p. IsPrepared p.of p.variables p.entries p.first p.constants.items p.frame.items
+        p.incoming.items p.memory.items };
 }
 
 /// Where the first label stands.
@@ -57,8 +58,13 @@ fn label_in(insts: &[Inst]) -> Option<usize>
 
 impl<'m> Prepared<'m> {
     /// Prepares a module. It fails only for want of memory.
-    pub fn new(alloc: Global, module: &'m Module, values: &SpecValues) -> Result<Prepared<'m>, AllocError>
-        ensures { IfOk result (λ prepared. prepared ≡ record { words = module.now; entries = values.now }) }
+    pub fn new(
+        alloc: Global,
+        module: &'m Module,
+        values: &SpecValues,
+    ) -> Result<Prepared<'m>, AllocError>
+        ensures { IfOk result
+            (λ prepared. prepared ≡ record { words = module.now; entries = values.now }) }
     {
         let of = ModuleFrame::new(alloc, module)?;
         let variables = Variables::new(alloc, &of)?;
@@ -67,7 +73,16 @@ impl<'m> Prepared<'m> {
         let frame = zeros(alloc, of.frame_place(of.count()))?;
         let incoming = zeros(alloc, of.frame_place(of.count()))?;
         let memory = zeros(alloc, of.memory_place(of.count()))?;
-        Ok(Prepared { of, variables, entries: *values, first, constants, frame, incoming, memory })
+        Ok(Prepared {
+            of,
+            variables,
+            entries: *values,
+            first,
+            constants,
+            frame,
+            incoming,
+            memory,
+        })
     }
 
     /// Runs the module's function with these inputs and buffers. It takes no memory.
@@ -80,7 +95,13 @@ impl<'m> Prepared<'m> {
         frame.copy_from_slice(self.constants.as_slice());
         let memory = self.memory.as_mut_slice();
         self.variables.fill(inputs, buffers, memory);
-        let end = walk(&self.of, self.first, frame, self.incoming.as_mut_slice(), memory);
+        let end = walk(
+            &self.of,
+            self.first,
+            frame,
+            self.incoming.as_mut_slice(),
+            memory,
+        );
         ended(&self.variables, end, memory)
     }
 }
@@ -96,7 +117,12 @@ fn ended(variables: &Variables<'_>, end: End, memory: &[u32]) -> Ended
             let left = variables.left(memory);
             let position = left.position;
             let slots = left.slots;
-            Ended { kind: Kind::Done, position, slots, work: end.work }
+            Ended {
+                kind: Kind::Done,
+                position,
+                slots,
+                work: end.work,
+            }
         }
         Kind::Killed => nothing(Kind::Killed, end.work),
         Kind::Lost => nothing(Kind::Lost, end.work),
@@ -106,16 +132,30 @@ fn ended(variables: &Variables<'_>, end: End, memory: &[u32]) -> Ended
 /// Zeros.
 fn nothing(kind: Kind, work: u64) -> Ended
     ensures { result ≡ record {
-        kind = kind; position = replicate COMPONENTS 0; slots = replicate LOCATIONS (replicate COMPONENTS 0); work = work
+      kind = kind;
+      position = replicate COMPONENTS 0;
+      slots = replicate LOCATIONS (replicate COMPONENTS 0);
+      work = work;
     } }
 {
     let position = [0; COMPONENTS];
     let slots = [[0; COMPONENTS]; LOCATIONS];
-    Ended { kind, position, slots, work }
+    Ended {
+        kind,
+        position,
+        slots,
+        work,
+    }
 }
 
 /// Prepares a module and runs it once. It fails only for want of memory.
-pub fn run_stage(alloc: Global, module: &Module, values: &SpecValues, inputs: &Inputs, buffers: &Buffers) -> Result<Ended, AllocError>
+pub fn run_stage(
+    alloc: Global,
+    module: &Module,
+    values: &SpecValues,
+    inputs: &Inputs,
+    buffers: &Buffers,
+) -> Result<Ended, AllocError>
     ensures { IfOk result (λ ended. option_map ended_of (stage module.now.insts
         (record { entries = values.now; inputs = inputs.now; buffers = buffers.now })) ≡ Some ended) }
 {

@@ -27,7 +27,9 @@ fn enter(of: &ModuleFrame<'_>, at: &mut Stand, frame: &[u32], incoming: &mut [u3
     requires within { at.old.place < length of.now.insts }
     requires few { length of.now.insts < 2 ^ 32 }
     ensures stands { at.new ≡ record at.old {
-        place = at.old.place + 1; label = word_at 0 (inst_at of.now.insts at.old.place); before = at.old.label
+      place = at.old.place + 1;
+      label = word_at 0 (inst_at of.now.insts at.old.place);
+      before = at.old.label;
     } }
     ensures taken { (values : Values) → IsFrame (program_of of.now.insts) frame.now
         → IsFrame (program_of of.now.insts) incoming.old
@@ -66,7 +68,13 @@ fn branch(of: &ModuleFrame<'_>, at: &mut Stand, frame: &[u32]) -> Option<Kind>
 }
 
 /// Runs one instruction; gives how the invocation ended, where it did.
-fn step(of: &ModuleFrame<'_>, at: &mut Stand, frame: &mut [u32], incoming: &mut [u32], memory: &mut [u32]) -> Option<Kind>
+fn step(
+    of: &ModuleFrame<'_>,
+    at: &mut Stand,
+    frame: &mut [u32],
+    incoming: &mut [u32],
+    memory: &mut [u32],
+) -> Option<Kind>
     requires stands { StandsSome of.now at.old frame.old incoming.old memory.old }
     requires room { at.old.work < 2 ^ 63 }
     ensures steps { (m : Machine) → Stands of.now m at.old frame.old incoming.old memory.old
@@ -106,16 +114,32 @@ fn step(of: &ModuleFrame<'_>, at: &mut Stand, frame: &mut [u32], incoming: &mut 
 }
 
 /// Runs an invocation to its end.
-pub fn walk(of: &ModuleFrame<'_>, first: usize, frame: &mut [u32], incoming: &mut [u32], memory: &mut [u32]) -> End
+pub fn walk(
+    of: &ModuleFrame<'_>,
+    first: usize,
+    frame: &mut [u32],
+    incoming: &mut [u32],
+    memory: &mut [u32],
+) -> End
     requires { EndsSome of.now (start first) frame.old incoming.old memory.old }
-    ensures { (m : Machine) (kind : of_kind.Kind) (state : State) → Stands of.now m (start first) frame.old incoming.old memory.old
+    ensures { (m : Machine) (kind : of_kind.Kind) (state : State)
+        → Stands of.now m (start first) frame.old incoming.old memory.old
         → run (enough_steps of.now.insts) (program_of of.now.insts) m ≡ Some (kind, state)
         → EndsSo of.now result memory.new kind state }
 {
-    let mut at = Stand { place: first, label: 0, before: 0, back_edges: 0, work: 0 };
+    let mut at = Stand {
+        place: first,
+        label: 0,
+        before: 0,
+        back_edges: 0,
+        work: 0,
+    };
     loop {
         if let Some(kind) = step(of, &mut at, frame, incoming, memory) {
-            return End { kind, work: at.work };
+            return End {
+                kind,
+                work: at.work,
+            };
         }
     }
 }

@@ -12,3 +12,4 @@ pub mod LabelPlaces
 pub mod Loops
 pub mod StageRuns
 pub mod WholeBlocks
+pub mod WorkCounts

@@ -26,7 +26,8 @@ use trace_model::line_fault::Cause;
 
 impl Made {
     pub fn add_buffer(&mut self, words: Items<u32>) -> Result<(), Cause>
-        ensures { Takes result (before_of self.new) (settled (before_of self.old) (data_line words)) }
+        ensures { Takes result (before_of self.new)
+            (settled (before_of self.old) (data_line words)) }
     {
         if self.buffers.is_full(BUFFERS) {
             return Err(Cause::TooMany);

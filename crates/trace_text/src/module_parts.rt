@@ -67,7 +67,8 @@ fn exceeds_layout(module: &Module, layout: &Layout) -> bool
 }
 
 fn lacks_uniforms(module: &Module, layout: &Layout) -> bool
-    ensures { result ≡ list_any (spec.lacks_uniform «module».now.insts layout.now) «module».now.insts }
+    ensures { result
+        ≡ list_any (spec.lacks_uniform «module».now.insts layout.now) «module».now.insts }
 {
     module
         .insts()
@@ -76,7 +77,8 @@ fn lacks_uniforms(module: &Module, layout: &Layout) -> bool
 }
 
 fn exceeds_pushes(module: &Module, layout: &Layout) -> bool
-    ensures { result ≡ list_any (spec.exceeds_push «module».now.insts layout.now) «module».now.insts }
+    ensures { result
+        ≡ list_any (spec.exceeds_push «module».now.insts layout.now) «module».now.insts }
 {
     module
         .insts()
@@ -185,7 +187,8 @@ fn words_behind(module: &Module, limit: u32, held: Option<u32>) -> bool
 /// The same of a block.
 #[tactic(auto, using(crate::proofs::BlockParts::block_by_members))]
 fn block_behind(module: &Module, limit: u32, block: u32) -> bool
-    ensures { result ≡ are_behind limit (block_offsets (program_of «module».now.insts) (Some block)) }
+    ensures { result
+        ≡ are_behind limit (block_offsets (program_of «module».now.insts) (Some block)) }
 {
     members_behind(module, limit, block, members_of(meaning(module, block)))
 }

@@ -156,7 +156,8 @@ pub fn bind_form<'a>(
     fields: &mut FieldCursor<'a>,
 ) -> Result<BindLine<'a>, Cause>
     ensures said { Says (lines.bind_line version) result (spec.bind_form version fields.old) }
-    ensures count { IfOk result (λ line. length line.targets ≡ lines.attachment_count version + 1) }
+    ensures count { IfOk result
+        (λ line. length line.targets ≡ lines.attachment_count version + 1) }
 {
     let recorder = fields.next_part().ok_or(Cause::BadLine)?;
     let recorder = recorder_value(recorder).ok_or(Cause::BadLine)?;

@@ -8,4 +8,4 @@ pub loop-member-preserved : goal.loop-member-preserved
 unfolding program_of
 loop-member-preserved c =
     joined_more (program_of c.args.of.now.insts) c.args.block c.args.members.now c.loop-member.member _ _ c.loop-member.offsets.items c.add_member.new.offsets.items
-    (omega (arith, c.loop-member-test.true, c.in-Ok.ensures)) refl (c.unwrap_or-by.ensures ∙ ap (λ (o : Option ℕ). unwrap_or o 0) c.offset.ensures) c.in_ok-add_member.ensures c.loop-member.invariant
+    c.loop-member-test.true refl (c.unwrap_or-by.ensures ∙ ap (λ (o : Option ℕ). unwrap_or o 0) c.offset.ensures) c.in_ok-add_member.ensures c.loop-member.invariant

@@ -20,10 +20,10 @@ loop-place-preserved c =
     let within : place < length insts = omega (arith, c.loop-place-test.true, c.count.ensures) in
     let is_phi : (inst_at insts place).op == op.PHI ≡ true = ap (λ (n : ℕ). n == op.PHI) (ap (λ (inst : Inst). inst.op) (sym c.inst.ensures) ∙ c.if-inst-ne-PHI.false) in
     let phis = λ (other : ℕ) (low : c.args.first ≤ other) (high : other < place + 1).
-        elim (cases_lt other place) as (λ _. (inst_at insts other).op == op.PHI ≡ true) [
-          | inl early ↦ c.loop-place.invariant.phis other low early
-          | inr late ↦ let e : other ≡ place = omega (arith, late, high) in ap (λ (n : ℕ). (inst_at insts n).op == op.PHI) e ∙ is_phi
-        ] in
+    elim (cases_lt other place) as (λ _. (inst_at insts other).op == op.PHI ≡ true) [
+      | inl early ↦ c.loop-place.invariant.phis other low early
+      | inr late ↦ let e : other ≡ place = omega (arith, late, high) in ap (λ (n : ℕ). (inst_at insts n).op == op.PHI) e ∙ is_phi
+    ] in
     record {
       low = let l = c.loop-place.invariant.low in omega (arith, l);
       high = omega (arith, within);

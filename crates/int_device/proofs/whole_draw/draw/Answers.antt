@@ -1,0 +1,18 @@
+use Rattle.std.proofs.Common.{◌∙◌}
+use Rattle.int_device.proofs.WholeLaws.{whole}
+use Rattle.int_device.proofs.whole_draw.draw.Goals as goal
+
+pub returns-clause-image : goal.returns-clause-image
+returns-clause-image c =
+    let a = c.args in
+    c.close.ensures
+    ∙ (whole a.unit.now a.state.now a.dynamic.now a.call.now a.buffers.now a.targets.now c.draw_primitives-work.new.canvas c.draw_primitives-work.result
+    c.vertex.result.now c.in_ok-vertices.vertices c.in_ok-shading.shading c.in_ok-canvas.canvas
+    c.in_ok-vertices.ensures c.vertex.ensures c.in_ok-shading.ensures c.in_ok-canvas.ensures.ok c.draw_primitives-work.ensures).image
+
+pub returns-clause-work : goal.returns-clause-work
+returns-clause-work c =
+    let a = c.args in
+    (whole a.unit.now a.state.now a.dynamic.now a.call.now a.buffers.now a.targets.now c.draw_primitives-work.new.canvas c.draw_primitives-work.result
+    c.vertex.result.now c.in_ok-vertices.vertices c.in_ok-shading.shading c.in_ok-canvas.canvas
+    c.in_ok-vertices.ensures c.vertex.ensures c.in_ok-shading.ensures c.in_ok-canvas.ensures.ok c.draw_primitives-work.ensures).steps
