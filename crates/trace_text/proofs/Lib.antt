@@ -8,6 +8,8 @@ pub mod GivenLines
 pub mod KnownNumbers
 pub mod Locations
 pub mod OneAnswer
+pub mod Pieces
+pub mod PrintedLines
 pub mod Rows
 pub mod SplitParts
 pub mod Values

@@ -7,14 +7,14 @@ use Rattle.trace_model.specs.Output.{row_text, rows_of}
 within_or_past : (a b : ℕ) → (a ≤ b) ⊎ (b ≤ a)
 within_or_past a b = grind arith
 
-take-min : (width : ℕ) (words : List ℕ) → take (min width (length words)) words ≡ take width words
+pub take-min : (width : ℕ) (words : List ℕ) → take (min width (length words)) words ≡ take width words
 take-min width words = elim (within_or_past width (length words)) [
   | inl h ↦ (let e : min width (length words) ≡ width = omega arith in ap (λ (n : ℕ). take n words) e)
   | inr h ↦ (let e : min width (length words) ≡ length words = omega arith in
       ap (λ (n : ℕ). take n words) e ∙ take_all (length words) words (omega arith) ∙ sym (take_all width words h))
 ]
 
-drop-min : (width : ℕ) (words : List ℕ) → drop (min width (length words)) words ≡ drop width words
+pub drop-min : (width : ℕ) (words : List ℕ) → drop (min width (length words)) words ≡ drop width words
 drop-min width words = elim (within_or_past width (length words)) [
   | inl h ↦ (let e : min width (length words) ≡ width = omega arith in ap (λ (n : ℕ). drop n words) e)
   | inr h ↦ (let e : min width (length words) ≡ length words = omega arith in

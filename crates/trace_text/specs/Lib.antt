@@ -8,6 +8,7 @@ pub mod ModuleParts
 pub mod Numbers
 pub mod Parts
 pub mod RecorderLines
+pub mod Printed
 pub mod Readings
 pub mod Steps
 pub mod Taking

@@ -4,7 +4,9 @@
 mod adding;
 mod adding_libraries;
 mod adding_steps;
+mod digits;
 mod each;
+mod fault_lines;
 mod few;
 mod field_cursor;
 mod field_values;
@@ -21,16 +23,24 @@ mod numbers;
 mod parts;
 mod places;
 mod print;
+mod print_modules;
+mod print_rules;
+mod print_targets;
 mod reading;
 mod recorder_lines;
 mod setup_lines;
 mod taking;
 
+pub use fault_lines::{fault_line, memory_line, read_line, usage_line, write_line};
 pub use form::read_trace;
 pub use print::print_target;
+pub use print_modules::check_text;
+pub use print_rules::{links_text, play_text};
 pub use reading::{ReadFault, read_whole};
 pub use trace_model::{Cause, Serve, Trace, TraceFault};
 
+#[cfg(test)]
+mod print_tests;
 #[cfg(test)]
 mod tests;
 #[cfg(test)]

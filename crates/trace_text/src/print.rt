@@ -1,9 +1,9 @@
-ghost use Rattle.std.specs.Prelude.{◌≡◌, ◌<◌, ◌∷◌, ◌++◌, IfOk, OnOk};
-ghost use Rattle.trace_model.specs.Text.{word_text, hex_digit};
+ghost use Rattle.std.specs.Prelude.{◌≡◌, ◌∷◌, ◌++◌, IfOk, OnOk};
+ghost use Rattle.trace_model.specs.Text.{word_text};
 ghost use Rattle.std.specs.List.{flat_map};
-ghost use Rattle.std.specs.Fmt.{decimal};
 ghost use Rattle.trace_model.specs.Output as output;
 
+use crate::digits::{push_decimal, push_word};
 use draw_model::Target;
 use std::alloc::{AllocError, Global};
 
@@ -12,7 +12,7 @@ pub fn print_target(alloc: Global, target: &Target, words: &[u32]) -> Result<Vec
     ensures { IfOk result (λ text. text.items ≡ output.target_text target.now words.now) }
 {
     let mut text = Vec::new(alloc);
-    push_heading(alloc, &mut text, target)?;
+    push_heading(&mut text, target)?;
     let width = target.width as usize;
     let mut rest = words;
     for _ in 0..target.height {
@@ -23,22 +23,14 @@ pub fn print_target(alloc: Global, target: &Target, words: &[u32]) -> Result<Vec
     Ok(text)
 }
 
-fn push_heading(alloc: Global, text: &mut Vec<u8>, target: &Target) -> Result<(), AllocError>
+fn push_heading(text: &mut Vec<u8>, target: &Target) -> Result<(), AllocError>
     ensures { OnOk result (text.new.items ≡ text.old.items ++ output.heading_of target.now) }
 {
     text.extend_from_slice(b"target 0 u1 ")?;
-    push_decimal(alloc, text, target.width)?;
+    push_decimal(text, u64::from(target.width))?;
     text.push(b' ')?;
-    push_decimal(alloc, text, target.height)?;
+    push_decimal(text, u64::from(target.height))?;
     text.extend_from_slice(b" 1 1\n")?;
-    Ok(())
-}
-
-fn push_decimal(alloc: Global, text: &mut Vec<u8>, number: u32) -> Result<(), AllocError>
-    ensures { OnOk result (text.new.items ≡ text.old.items ++ decimal number) }
-{
-    let digits = number.to_string(alloc)?;
-    text.extend_from_slice(digits.as_bytes())?;
     Ok(())
 }
 
@@ -64,33 +56,4 @@ fn push_others(text: &mut Vec<u8>, words: &[u32]) -> Result<(), AllocError>
         push_word(text, *word)?;
     }
     Ok(())
-}
-
-fn push_word(text: &mut Vec<u8>, word: u32) -> Result<(), AllocError>
-    ensures { OnOk result (text.new.items ≡ text.old.items ++ word_text word) }
-{
-    let digits = [
-        hex_digit(word / 0x1000_0000 % 16),
-        hex_digit(word / 0x100_0000 % 16),
-        hex_digit(word / 0x10_0000 % 16),
-        hex_digit(word / 0x1_0000 % 16),
-        hex_digit(word / 0x1000 % 16),
-        hex_digit(word / 0x100 % 16),
-        hex_digit(word / 0x10 % 16),
-        hex_digit(word % 16),
-    ];
-    text.extend_from_slice(&digits)
-}
-
-/// The character of a hexadecimal digit.
-fn hex_digit(value: u32) -> u8
-    requires { value < 16 }
-    ensures { result ≡ hex_digit value }
-{
-    let value = value as u8;
-    if value < 10 {
-        b'0' + value
-    } else {
-        b'a' + (value - 10)
-    }
 }

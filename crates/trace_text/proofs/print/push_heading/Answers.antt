@@ -11,5 +11,7 @@ five_pieces old a b c d e t u v w x p q r s y =
 pub returns : goal.returns
 returns c =
     five_pieces c.args.text.now.items (codes "target 0 u1 ") (decimal c.args.target.now.width) (codes " ") (decimal c.args.target.now.height) (codes " 1 1\n")
-    _ _ _ _ _ c.in_ok-extend_from_slice.ensures.items c.in_ok-push_decimal.ensures c.in_ok-push.ensures.items c.in_ok-push_decimal-2.ensures
+    _ _ _ _ _ c.in_ok-extend_from_slice.ensures.items
+    (c.in_ok-push_decimal.ensures ∙ ap (λ (n : ℕ). c.extend_from_slice.new.self.items ++ decimal n) c.from.ensures)
+    c.in_ok-push.ensures.items (c.in_ok-push_decimal-2.ensures ∙ ap (λ (n : ℕ). c.push.new.self.items ++ decimal n) c.from-2.ensures)
     c.in_ok-extend_from_slice-2.ensures.items
