@@ -1,2 +1,3 @@
 mod ClassRows
 mod ScalarRows
+pub mod WordResults

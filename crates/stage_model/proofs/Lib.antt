@@ -13,3 +13,5 @@ pub mod Loops
 pub mod StageRuns
 pub mod WholeBlocks
 pub mod WorkCounts
+pub mod WordRuns
+pub mod WordValues

@@ -1,4 +1,5 @@
 mod KeyWords
+pub mod LinkedStates
 mod Links
 mod Numbers
 pub mod PipeKeys

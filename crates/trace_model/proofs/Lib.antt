@@ -1,8 +1,16 @@
+pub mod FieldForms
 pub mod FieldNumbers
 pub mod FieldRanges
+pub mod FormLines
 pub mod JudgedReadings
+pub mod KeptLines
+pub mod LawfulDynamics
 pub mod LawfulLines
+pub mod LawfulParts
+pub mod LawfulPlays
+pub mod LawfulTraces
 pub mod Meanings
+pub mod ModuleWords
 pub mod ReadingLaws
 pub mod Samples
 pub mod SpecIdLaws

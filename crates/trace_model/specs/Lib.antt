@@ -1,6 +1,7 @@
 pub mod FaultText
 pub mod Fields
 pub mod Form
+pub mod LawfulPlay
 pub mod LibraryLines
 pub mod LineForms
 pub mod Lines
