@@ -1,4 +1,6 @@
-pub mod Modules
+pub mod Links
 pub mod Reads
 pub mod Runs
+pub mod Steps
+pub mod Takes
 pub mod Writes
