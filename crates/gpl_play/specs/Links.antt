@@ -1,24 +1,31 @@
 -- What a trace's pipes link to.
-use Rattle.std.specs.Prelude.{◌≡◌, ℕ, List, [], ◌∷◌, ◌++◌, map, length, false, Option, None, Some, Result, Ok, Err}
-use Rattle.std.specs.List.{filter_map, range_with_len}
-use Rattle.std.specs.Option.{option_map_or}
+use Rattle.std.specs.Prelude.{◌≡◌, ℕ, List, [], ◌∷◌, ◌++◌, length, slice_get, false, Some, Result, Ok, Err}
 use Rattle.spirv_model.specs.declared.module.Words.{Words}
 use Rattle.state_model.specs.declared.parts.State.{State}
 use Rattle.state_model.specs.declared.rule.Rule.{Rule}
-use Rattle.state_model.specs.Link.{Libraries, failed_rule, linked_state}
+use Rattle.state_model.specs.Link.{Libraries, failed_rule}
+use Rattle.state_model.specs.PipeKey.{state_if_linked}
 use Rattle.trace_model.specs.declared.whole.Library.{Library}
 use Rattle.trace_model.specs.declared.whole.Trace.{Trace}
-use Rattle.trace_model.specs.Pipes.{libraries_by_subset, pipe_libraries, pipe_state}
-use Rattle.trace_model.specs.Playing.{pipe_rule}
+use Rattle.trace_model.specs.Pipes.{libraries_by_subset, pipe_libraries}
 
--- the trace with these objects alone
-abbrev pub objects : List Words → List Library → Trace
-objects modules libs =
-    record { modules = modules; buffers = record { list = [] }; libs = libs; pipes = []; targets = []; steps = [] }
+-- a trace with these modules alone
+abbrev pub with_modules : List Words → Trace
+with_modules modules =
+    record { modules = modules; buffers = record { list = [] }; libs = []; pipes = []; targets = []; steps = [] }
 
--- the libraries of a pipe, by subset
+-- libraries by subset, each with the interface of its module
 abbrev pub libraries_given : List Words → List Library → Libraries
-libraries_given modules given = libraries_by_subset (objects modules []) given
+libraries_given modules given = libraries_by_subset (with_modules modules) given
+
+-- these libraries, and one more
+abbrev pub with_library : List Words → Libraries → Library → Libraries
+with_library modules libs library = let one = libraries_given modules (library ∷ []) in record {
+  vertex = libs.vertex ++ one.vertex;
+  prerast = libs.prerast ++ one.prerast;
+  fragment = libs.fragment ++ one.fragment;
+  output = libs.output ++ one.output;
+}
 
 -- the trace has these objects
 pub record HasObjects (trace : Trace) (modules : List Words) (libs : List Library) (pipes : List (List ℕ)) : Type 0 where
@@ -26,7 +33,12 @@ pub record HasObjects (trace : Trace) (modules : List Words) (libs : List Librar
   pub libs : trace.libs ≡ libs
   pub pipes : trace.pipes ≡ pipes
 
--- a pipe is linked to its state, or refused by a rule
-abbrev pub IsLink : Trace → ℕ → Result State Rule → Type 0
-IsLink trace pipe (Ok state) = pipe_state trace pipe ≡ Some state
-IsLink trace pipe (Err rule) = pipe_rule trace pipe ≡ Some rule
+-- libraries link to their state, or a rule fails
+abbrev pub IsLinkOf : Libraries → Result State Rule → Type 0
+IsLinkOf libs (Ok state) = state_if_linked libs ≡ Some state
+IsLinkOf libs (Err rule) = failed_rule libs false ≡ Some rule
+
+-- what each pipe links to, by its number
+pub record AreLinks (trace : Trace) (links : List (Result State Rule)) : Type 0 where
+  pub count : length links ≡ length trace.pipes
+  pub each : (pipe : ℕ) (link : Result State Rule) → slice_get links pipe ≡ Some link → IsLinkOf (pipe_libraries trace pipe) link

@@ -1,11 +1,12 @@
 -- What taking a trace from a source gives.
-use Rattle.std.specs.Prelude.{◌≡◌, ℕ, List, Option, IfSome, Result, Ok, Err}
+use Rattle.std.specs.Prelude.{◌≡◌, ℕ, List, Option, None, Some, IfSome, Result, Ok, Err}
 use Rattle.std.specs.Io.KnownBytes.{IsAtEnd}
 use Rattle.trace_model.specs.declared.line_fault.TraceFault.{TraceFault}
 use Rattle.trace_model.specs.declared.whole.Trace.{Trace}
 use Rattle.trace_model.specs.LawfulPlay.{LawfulTrace}
 use Rattle.trace_model.specs.Reading.{IsTraceOf, HasTraceFault}
 use Rattle.gpl_play.specs.Reads.{ReadsSome}
+use Rattle.gpl_play.specs.declared.status.TheConstants.{REFUSED, READ_FAILED, NO_MEMORY}
 use Rattle.gpl_play.specs.declared.take.Stop.{Stop}
 use Rattle.gpl_play.specs.declared.take.Stop.TheVariants.{Failed, Memory, Refused}
 
@@ -29,3 +30,15 @@ Stops before after Memory = Unit {0}
 -- a read failed
 abbrev pub HasFailed : Result Trace Stop → Type 0
 HasFailed answer = answer ≡ Err Failed
+
+-- ---- how a call ends then
+
+abbrev pub stop_status : Stop → ℕ
+stop_status Failed = READ_FAILED
+stop_status Memory = NO_MEMORY
+stop_status (Refused fault) = REFUSED
+
+abbrev pub stop_fault : Stop → Option TraceFault
+stop_fault (Refused fault) = Some fault
+stop_fault Failed = None
+stop_fault Memory = None

@@ -1,7 +1,8 @@
 //! The ends of a call.
-ghost use Rattle.std.specs.Prelude.{◌≡◌, ◌≢◌, ◌⊎◌, Some, IsNone};
-ghost use Rattle.std.specs.Io.KnownBytes.{Appends, Keeps};
+ghost use Rattle.std.specs.Prelude.{◌≡◌, ◌⊎◌, Some, IsNone};
+ghost use Rattle.std.specs.Io.KnownBytes.{Appends};
 ghost use Rattle.basics.specs.Count.{Rose};
+ghost use Rattle.gpl_play.specs.Takes.{stop_status, stop_fault};
 ghost use Rattle.gpl_play.specs.Writes.{WritesFront};
 
 use crate::outcome::Outcome;
@@ -9,7 +10,6 @@ use crate::status::{DONE, NO_MEMORY, READ_FAILED, REFUSED, WRITE_FAILED};
 use crate::take::Stop;
 use crate::write::write_all;
 use gpl_edge::Sink;
-use std::alloc::AllocError;
 use trace_model::line_fault::TraceFault;
 
 /// The end with this status alone.
@@ -40,6 +40,8 @@ fn refused(fault: TraceFault) -> Outcome
 
 /// The end where no trace was taken.
 pub fn stopped(stop: Stop) -> Outcome
+    ensures status { result.status ≡ stop_status stop }
+    ensures fault { result.fault ≡ stop_fault stop }
     ensures report { IsNone result.report }
 {
     match stop {
@@ -49,17 +51,20 @@ pub fn stopped(stop: Stop) -> Outcome
     }
 }
 
-/// The end of a call with this text, or with want of memory for it.
-pub fn told<K: Sink>(sink: &mut K, text: Result<Vec<u8>, AllocError>) -> Outcome
-    ensures report { IsNone result.report }
+/// The end of a call with this text.
+pub fn told<K: Sink>(sink: &mut K, text: &[u8]) -> Outcome
+    ensures statuses { (result.status ≡ DONE) ⊎ (result.status ≡ WRITE_FAILED) }
     ensures fault { IsNone result.fault }
-    ensures statuses { (result.status ≡ DONE) ⊎ ((result.status ≡ WRITE_FAILED)
-        ⊎ (result.status ≡ NO_MEMORY)) }
+    ensures report { IsNone result.report }
+    ensures done { result.status ≡ DONE
+        → Appends (K.held sink.old) (K.held sink.new) text.now }
+    ensures unraised { result.status ≡ DONE → K.faults sink.new ≡ K.faults sink.old }
+    ensures front { result.status ≡ WRITE_FAILED
+        → WritesFront (K.held sink.old) (K.held sink.new) text.now }
+    ensures failed { result.status ≡ WRITE_FAILED
+        → Rose (K.faults sink.old) (K.faults sink.new) }
 {
-    let Ok(text) = text else {
-        return ended(NO_MEMORY);
-    };
-    match write_all(sink, text.as_slice()) {
+    match write_all(sink, text) {
         Ok(()) => ended(DONE),
         Err(_) => ended(WRITE_FAILED),
     }

@@ -1,14 +1,13 @@
 //! The links of a trace's pipes.
 ghost use Rattle.std.specs.Prelude.{◌≡◌, map, slice_get, IfOk, OnOk};
 ghost use Rattle.std.specs.List.{All, filter_map};
-ghost use Rattle.std.specs.Result.{result_err};
-ghost use Rattle.state_model.specs.Link.{Links, failed_rule};
+ghost use Rattle.check_model.specs.Validity.{IsValidList};
 ghost use Rattle.link_rules.specs.Libs.{libraries};
 ghost use Rattle.link_rules.specs.Parts.{HoldsLawfulParts};
 ghost use Rattle.trace_model.specs.LawfulPlay.{IsLibrary};
 ghost use Rattle.trace_model.specs.declared.whole.Trace as trace;
 ghost use Rattle.trace_text.specs.Printed.{pipe_rules};
-ghost use Rattle.gpl_play.specs.Links.{HasObjects, IsGiven, links_of, given};
+ghost use Rattle.gpl_play.specs.Links.{HasObjects, AreLinks, IsLinkOf, libraries_given, with_library};
 
 use fragment_lib::FragmentLib;
 use link_rules::{Libs, link};
@@ -45,7 +44,7 @@ pub fn link_pipes(
 ) -> Result<Vec<Result<State, Rule>>, AllocError>
     requires { All (IsLibrary modules.now) libs.now }
     ensures { (trace : trace.Trace) → HasObjects trace modules.now libs.now pipes.now
-        → IfOk result (λ links. links.items ≡ links_of trace) }
+        → IfOk result (λ links. AreLinks trace links.items) }
 {
     let mut links = Vec::new(alloc);
     for pipe in pipes {
@@ -77,7 +76,7 @@ pub fn rules_of_pipes(
 /// The state of libraries, or the first rule that fails.
 fn state_of(given: &Libs) -> Result<State, Rule>
     requires { HoldsLawfulParts (libraries given.now) }
-    ensures { result ≡ link_of (libraries given.now) }
+    ensures { IsLinkOf (libraries given.now) result }
 {
     link(given, false)?;
     Ok(given.state())
@@ -91,8 +90,8 @@ fn libraries_of(
     pipe: &[u16],
 ) -> Result<Libs, AllocError>
     requires { All (IsLibrary modules.now) libs.now }
-    ensures libraries { IfOk result
-        (λ made. libraries made ≡ libraries_in modules.now (filter_map (slice_get libs.now) pipe.now)) }
+    ensures libraries { IfOk result (λ made. libraries made
+        ≡ libraries_given modules.now (filter_map (slice_get libs.now) pipe.now)) }
     ensures lawful { IfOk result (λ made. HoldsLawfulParts (libraries made)) }
 {
     let mut made = Libs {

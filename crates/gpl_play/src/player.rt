@@ -79,7 +79,10 @@ pub fn run<R: Threads + Wait + Sync, S: Source, K: Sink, G: Gate>(
         return ended(USAGE);
     }
     match take_trace(alloc, source) {
-        Ok(trace) => told(sink, text_of_play(alloc, trace)),
+        Ok(trace) => match text_of_play(alloc, trace) {
+            Ok(text) => told(sink, text.as_slice()),
+            Err(_) => ended(NO_MEMORY),
+        },
         Err(stop) => stopped(stop),
     }
 }

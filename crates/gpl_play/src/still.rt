@@ -80,7 +80,10 @@ pub fn run_still<S: Source, K: Sink>(
         return ended(USAGE);
     };
     match take_trace(alloc, source) {
-        Ok(trace) => told(sink, text_of(alloc, call, trace)),
+        Ok(trace) => match text_of(alloc, call, trace) {
+            Ok(text) => told(sink, text.as_slice()),
+            Err(_) => ended(NO_MEMORY),
+        },
         Err(stop) => stopped(stop),
     }
 }
