@@ -1,5 +1,6 @@
 -- What was read is what was left to be read, where it is a trace, and else it has the same fault.
 use Rattle.std.proofs.Common.{◌≡◌, ℕ, ◌+◌, ◌<◌, ◌≤◌, List, ◌++◌, length, refl, ap, sym, ◌∙◌, subst, arith, append-nil, ◌⊎◌, inl, inr, Option, None, Some}
+use Rattle.std.proofs.lemmas.List.{length-append}
 use Rattle.std.specs.Prelude.{IfSome, Result, Ok, Err}
 use Rattle.std.specs.Io.KnownBytes.{Consumes, IsAtEnd}
 use Rattle.limits.specs.declared.TheConstants.{TRACE_BYTES}
@@ -30,7 +31,7 @@ fault_is bytes fault h long =
     let same : Err fault ≡ Err (fault_at 0 TooLong) = one_reading bytes (Err fault) (Err (fault_at 0 TooLong)) h (long_fault bytes long) in cc
 
 longer : (all bytes left : List ℕ) → all ≡ bytes ++ left → TRACE_BYTES < length bytes → TRACE_BYTES < length all
-longer all bytes left is long = subst (λ (xs : List ℕ). TRACE_BYTES < length xs) (sym is) (omega (arith, list_lengths, long))
+longer all bytes left is long = omega (arith, ap length is ∙ length-append bytes left, long)
 
 -- ---- all bytes
 

@@ -1,4 +1,5 @@
 pub mod Links
+pub mod Plays
 pub mod Reads
 pub mod Runs
 pub mod Steps

@@ -1,7 +1,10 @@
 //! The text of a trace that is played.
-ghost use Rattle.std.specs.Prelude.{◌≡◌, IfOk};
+ghost use Rattle.std.specs.Prelude.{◌≡◌, ℕ, List, [], ◌∷◌, ◌++◌, length, map, IfOk, OnOk};
 ghost use Rattle.trace_model.specs.LawfulPlay.{LawfulTrace};
 ghost use Rattle.trace_model.specs.PlayText as spec;
+ghost use Rattle.trace_model.specs.Playing.{RecordedDraw, after_linked, draws_of};
+ghost use Rattle.trace_model.specs.declared.whole.Trace as trace;
+ghost use Rattle.gpl_play.specs.Plays.{Drawables, AreOf, AreLeftBy, IsDraw, IsDrawOf, IsPlayOf};
 
 use crate::links::{link_pipes, valid_modules};
 use crate::recorder::{first_dynamic, take_step};
@@ -12,6 +15,7 @@ use spv_check::Module;
 use sqlite_items::Items;
 use state_model::{Buffers, Rule, State};
 use std::alloc::{AllocError, Global};
+use std::marker::Model;
 use trace_model::whole::{Step, Trace};
 use trace_text::play_text;
 
@@ -22,6 +26,13 @@ struct Objects<'a> {
     buffers: &'a Buffers,
     /// By pipe.
     links: &'a [Result<State, Rule>],
+}
+
+impl<'a> Model for Objects<'a> {
+    ghost Value = { Drawables };
+
+    ghost view = { λ o. record {
+        modules = o.modules.now; buffers = o.buffers.now; links = o.links.now } };
 }
 
 /// What the draws so far have left.
@@ -60,7 +71,9 @@ pub fn text_of_play(alloc: Global, trace: Trace) -> Result<Vec<u8>, AllocError>
 }
 
 /// The targets, whosever they are.
-fn bare_targets(alloc: Global, targets: Items<(u8, Target)>) -> Result<Targets, AllocError> {
+fn bare_targets(alloc: Global, targets: Items<(u8, Target)>) -> Result<Targets, AllocError>
+    ensures { IfOk result (λ bare. bare.list ≡ map (λ t. t.1) targets) }
+{
     let mut rest = targets;
     let mut bare = Vec::new(alloc);
     while let Some((_, target)) = rest.pop() {
@@ -78,7 +91,12 @@ fn play_steps(
     objects: &Objects,
     steps: &[(u8, Step)],
     left: &mut Left,
-) -> Result<(), AllocError> {
+) -> Result<(), AllocError>
+    requires { IsPlayOf objects.now steps.now left.old.targets left.old.refused.items }
+    ensures { (trace : trace.Trace) → AreOf trace objects.now → trace.steps ≡ steps.now
+        → AreLeftBy trace [] left.old.targets left.old.refused.items
+        → OnOk result (AreLeftBy trace (draws_of trace) left.new.targets left.new.refused.items) }
+{
     let mut dynamics = [
         first_dynamic(),
         first_dynamic(),
@@ -106,7 +124,17 @@ fn play_draw(
     dynamic: &Dynamic,
     call: &DrawCall,
     left: &mut Left,
-) -> Result<(), AllocError> {
+) -> Result<(), AllocError>
+    requires { (recorder : ℕ) × IsDrawOf objects.now number
+        (record { recorder = recorder; pipe = pipe; dynamic = dynamic.now; call = call.now })
+        left.old.targets left.old.refused.items }
+    ensures { (trace : trace.Trace) (front : List RecordedDraw) (recorder : ℕ)
+        → AreOf trace objects.now → number ≡ length front
+        → AreLeftBy trace front left.old.targets left.old.refused.items
+        → OnOk result (AreLeftBy trace (front ++ record {
+            recorder = recorder; pipe = pipe; dynamic = dynamic.now; call = call.now } ∷ [])
+            left.new.targets left.new.refused.items) }
+{
     match &objects.links[usize::from(pipe)] {
         Ok(state) => draw_linked(alloc, objects, state, dynamic, call, &mut left.targets),
         Err(rule) => {
@@ -124,7 +152,13 @@ fn draw_linked(
     dynamic: &Dynamic,
     call: &DrawCall,
     targets: &mut Targets,
-) -> Result<(), AllocError> {
+) -> Result<(), AllocError>
+    requires { (trace : trace.Trace) × (AreOf trace objects.now)
+        × IsDraw trace state.now dynamic.now call.now targets.old }
+    ensures { (trace : trace.Trace) (recorder pipe : ℕ) → AreOf trace objects.now
+        → OnOk result (targets.new ≡ after_linked trace targets.old (record {
+            recorder = recorder; pipe = pipe; dynamic = dynamic.now; call = call.now }) state.now) }
+{
     let vertex = &objects.modules[state.prerast.module as usize];
     let fragment = match &state.fragment {
         Some(part) => Some(&objects.modules[part.module as usize]),
