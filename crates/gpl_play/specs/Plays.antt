@@ -32,6 +32,10 @@ pub record AreLeftBy (trace : Trace) (front : List RecordedDraw) (targets : Targ
   pub targets : targets ≡ fold (after_draw trace) (first_targets trace) front
   pub refused : refused ≡ filter_map (refusal trace) (enumerate_from 0 front)
 
+-- a recorder's draw
+abbrev pub drawn_by : (recorder pipe : ℕ) → Dynamic → DrawCall → RecordedDraw
+drawn_by recorder pipe dynamic call = record { recorder = recorder; pipe = pipe; dynamic = dynamic; call = call }
+
 -- A draw of a lawful trace, with the draws before it and behind it.
 pub record IsDrawOf (objects : Drawables) (number : ℕ) (drawn : RecordedDraw) (targets : Targets) (refused : List (ℕ × Rule)) : Type 0 where
   pub trace : Trace

@@ -1,5 +1,6 @@
 //! The forms of the program's words.
-ghost use Rattle.std.specs.Prelude.{◌≡◌, IsTrue, ◌↔◌, IfSome, IsNone, map, string_bytes};
+ghost use Rattle.std.specs.Prelude.{◌≡◌, ◌↔◌, [], ◌∷◌, map, IsTrue, IfSome, IsNone, string_bytes};
+ghost use Rattle.gpl_play.specs.declared.call.StillCall as declared;
 ghost use Rattle.gpl_play.specs.Runs.{IsPlay, IsStill, still_words};
 
 /// A call that no other thread takes part in.
@@ -33,7 +34,12 @@ pub fn still_call(words: &Vec<String>) -> Option<StillCall>
     }
 }
 
-fn call_named(word: &str) -> Option<StillCall> {
+/// The call of one word.
+fn call_named(word: &str) -> Option<StillCall>
+    ensures some { IfSome result (λ call. still_words call ≡ word.now ∷ []) }
+    ensures none { IsNone result → (call : declared.StillCall)
+        → still_words call ≡ word.now ∷ [] → ⊥ }
+{
     if word == "check" {
         return Some(StillCall::Check);
     }

@@ -4,7 +4,7 @@ ghost use Rattle.trace_model.specs.LawfulPlay.{LawfulTrace};
 ghost use Rattle.trace_model.specs.PlayText as spec;
 ghost use Rattle.trace_model.specs.Playing.{RecordedDraw, after_linked, draws_of};
 ghost use Rattle.trace_model.specs.declared.whole.Trace as trace;
-ghost use Rattle.gpl_play.specs.Plays.{Drawables, AreOf, AreLeftBy, IsDraw, IsDrawOf, IsPlayOf};
+ghost use Rattle.gpl_play.specs.Plays.{Drawables, AreOf, AreLeftBy, IsDraw, IsDrawOf, IsPlayOf, drawn_by};
 
 use crate::links::{link_pipes, valid_modules};
 use crate::recorder::{first_dynamic, take_step};
@@ -32,7 +32,10 @@ impl<'a> Model for Objects<'a> {
     ghost Value = { Drawables };
 
     ghost view = { λ o. record {
-        modules = o.modules.now; buffers = o.buffers.now; links = o.links.now } };
+      modules = o.modules.now;
+      buffers = o.buffers.now;
+      links = o.links.now;
+    } };
 }
 
 /// What the draws so far have left.
@@ -126,14 +129,14 @@ fn play_draw(
     left: &mut Left,
 ) -> Result<(), AllocError>
     requires { (recorder : ℕ) × IsDrawOf objects.now number
-        (record { recorder = recorder; pipe = pipe; dynamic = dynamic.now; call = call.now })
+        (drawn_by recorder pipe dynamic.now call.now)
         left.old.targets left.old.refused.items }
     ensures { (trace : trace.Trace) (front : List RecordedDraw) (recorder : ℕ)
         → AreOf trace objects.now → number ≡ length front
         → AreLeftBy trace front left.old.targets left.old.refused.items
-        → OnOk result (AreLeftBy trace (front ++ record {
-            recorder = recorder; pipe = pipe; dynamic = dynamic.now; call = call.now } ∷ [])
-            left.new.targets left.new.refused.items) }
+        → OnOk result (AreLeftBy trace
+        (front ++ drawn_by recorder pipe dynamic.now call.now ∷ [])
+        left.new.targets left.new.refused.items) }
 {
     match &objects.links[usize::from(pipe)] {
         Ok(state) => draw_linked(alloc, objects, state, dynamic, call, &mut left.targets),
@@ -156,8 +159,8 @@ fn draw_linked(
     requires { (trace : trace.Trace) × (AreOf trace objects.now)
         × IsDraw trace state.now dynamic.now call.now targets.old }
     ensures { (trace : trace.Trace) (recorder pipe : ℕ) → AreOf trace objects.now
-        → OnOk result (targets.new ≡ after_linked trace targets.old (record {
-            recorder = recorder; pipe = pipe; dynamic = dynamic.now; call = call.now }) state.now) }
+        → OnOk result (targets.new ≡ after_linked trace targets.old
+        (drawn_by recorder pipe dynamic.now call.now) state.now) }
 {
     let vertex = &objects.modules[state.prerast.module as usize];
     let fragment = match &state.fragment {
@@ -165,6 +168,8 @@ fn draw_linked(
         None => None,
     };
     let buffers = objects.buffers;
-    draw_modules(alloc, vertex, fragment, state, dynamic, call, buffers, targets)?;
+    draw_modules(
+        alloc, vertex, fragment, state, dynamic, call, buffers, targets,
+    )?;
     Ok(())
 }

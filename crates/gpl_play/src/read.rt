@@ -4,8 +4,8 @@ ghost use Rattle.basics.specs.Count.{Rose};
 ghost use Rattle.gpl_play.specs.Reads.{Reads};
 
 use gpl_edge::Source;
-use std::alloc::Global;
 use limits::TRACE_BYTES;
+use std::alloc::Global;
 
 /// How many bytes a read asks for at most.
 const CHUNK: usize = 4096;

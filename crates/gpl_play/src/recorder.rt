@@ -1,5 +1,5 @@
 //! What a recorder draws with.
-ghost use Rattle.std.specs.Prelude.{◌≡◌};
+ghost use Rattle.std.specs.Prelude.{◌≡◌, ◌+◌, ◌≤◌, length};
 ghost use Rattle.draw_model.specs.TargetWords.{words_set};
 ghost use Rattle.trace_model.specs.Playing.{after_step, first_dynamic};
 ghost use Rattle.gpl_play.specs.Steps.{HasPlaces};

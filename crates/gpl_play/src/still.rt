@@ -34,7 +34,7 @@ pub fn run_still<S: Source, K: Sink>(
     // All text was written, and nothing else: what the call prints of the trace.
     ensures done { result.status ≡ DONE
         → WritesDue (IsStillText (map string_bytes words.now.items))
-            (S.left source.old) (K.held sink.old) (K.held sink.new) }
+        (S.left source.old) (K.held sink.old) (K.held sink.new) }
     ensures read { result.status ≡ DONE → IsAtEnd (S.left source.new) }
 
     ensures usage { (result.status ≡ USAGE)
@@ -61,7 +61,7 @@ pub fn run_still<S: Source, K: Sink>(
         → Rose (K.faults sink.old) (K.faults sink.new) }
     ensures front { result.status ≡ WRITE_FAILED
         → WritesDueFront (IsStillText (map string_bytes words.now.items))
-            (S.left source.old) (K.held sink.old) (K.held sink.new) }
+        (S.left source.old) (K.held sink.old) (K.held sink.new) }
     ensures front_read { result.status ≡ WRITE_FAILED → IsAtEnd (S.left source.new) }
     ensures writes_counted { result.status ≢ WRITE_FAILED
         → K.faults sink.new ≡ K.faults sink.old }

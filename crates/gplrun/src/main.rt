@@ -4,9 +4,9 @@
 use gpl_edge::{NoGate, StdSink, StdSource};
 use gpl_play::{Outcome, run, run_still, status};
 use std::alloc::Global;
+use std::io::Write;
 use std::process::ExitCode;
 use std::{env, io};
-use std::io::Write;
 use trace_text::{fault_line, memory_line, read_line, usage_line, write_line};
 
 /// The forms of words, below the line that says that there was none.
@@ -22,14 +22,7 @@ fn main(rt: HostRuntime) -> ExitCode {
     let outcome = if is_still(&words) {
         run_still(rt.alloc(), &words, &mut source, &mut sink)
     } else {
-        run(
-            &rt,
-            rt.alloc(),
-            &words,
-            &mut source,
-            &mut sink,
-            &NoGate,
-        )
+        run(&rt, rt.alloc(), &words, &mut source, &mut sink, &NoGate)
     };
     let _ = report(&rt, &outcome);
     ExitCode::from(outcome.status)
