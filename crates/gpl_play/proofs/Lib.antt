@@ -1,2 +1,4 @@
+pub mod DrawSteps
+pub mod LinkLaws
 pub mod Outcomes
 pub mod Streams
