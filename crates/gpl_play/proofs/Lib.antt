@@ -1,4 +1,4 @@
-pub mod Nothing
+pub mod DrawSteps
+pub mod LinkLaws
 pub mod Outcomes
 pub mod Streams
-pub mod ValidForms

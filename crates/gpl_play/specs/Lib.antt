@@ -1,4 +1,7 @@
-pub mod Modules
+pub mod Links
+pub mod Plays
 pub mod Reads
 pub mod Runs
+pub mod Steps
+pub mod Takes
 pub mod Writes

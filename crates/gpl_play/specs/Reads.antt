@@ -1,11 +1,11 @@
 -- What reading a source takes from it.
 use Rattle.std.specs.Prelude.{◌≡◌, ◌⊎◌, ℕ, ◌+◌, List, length, Option}
 use Rattle.std.specs.Io.KnownBytes.{Consumes, IsAtEnd}
-use Rattle.trace_model.specs.declared.trace.TheConstants.{TRACE_LIMIT}
+use Rattle.limits.specs.declared.TheConstants.{TRACE_BYTES}
 
 -- reading ended: nothing is left, or one byte more was read than a trace may have
 abbrev pub EndsReading : Option (List ℕ) → List ℕ → Type 0
-EndsReading left bytes = IsAtEnd left ⊎ (length bytes ≡ TRACE_LIMIT + 1)
+EndsReading left bytes = IsAtEnd left ⊎ (length bytes ≡ TRACE_BYTES + 1)
 
 -- these bytes were read, and reading ended
 pub record Reads (before after : Option (List ℕ)) (bytes : List ℕ) : Type 0 where

@@ -1,15 +1,24 @@
-//! The play of a trace: from the bytes of a source to the text in a sink.
+//! The calls of the program: from the bytes of a source to the text in a sink.
 #![tactic(auto)]
 
+mod call;
+mod ending;
+mod links;
 mod outcome;
+mod play;
 mod player;
 mod read;
+mod recorder;
 pub mod status;
+mod still;
+mod take;
 mod write;
 
 pub use outcome::{Outcome, Report};
 pub use player::run;
-pub use trace_text::{Cause, Serve, TraceFault};
+pub use still::run_still;
+pub use trace_model::Serve;
+pub use trace_model::line_fault::{Cause, TraceFault};
 
 #[cfg(test)]
 mod tests;

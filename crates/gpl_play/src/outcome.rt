@@ -1,5 +1,6 @@
 use limits::KEY_WORDS;
-use trace_text::{Serve, TraceFault};
+use trace_model::Serve;
+use trace_model::line_fault::TraceFault;
 
 /// How a run ended.
 #[derive(Debug, Drop)]

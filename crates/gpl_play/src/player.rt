@@ -1,34 +1,20 @@
-ghost use Rattle.std.specs.Prelude.{◌≡◌, ◌≢◌, ◌≤◌, ◌⊎◌, ◌↔◌, ℕ, List, map, IsTrue, IsSome, IsNone, IfSome, IfOk, None, string_bytes};
-ghost use Rattle.std.specs.Option.{option_map};
+ghost use Rattle.std.specs.Prelude.{◌≡◌, ◌≢◌, ◌≤◌, ◌↔◌, map, IsSome, IsNone, IfSome, string_bytes};
 ghost use Rattle.std.specs.Io.KnownBytes.{IsAtEnd, Keeps};
 ghost use Rattle.basics.specs.Count.{Rose};
-ghost use Rattle.draw_model.specs.Draw.{HasLimitedSides};
-ghost use Rattle.check_model.specs.Validity.{IsValidList};
-ghost use Rattle.stage_model.specs.Stage.{ended_of, stage};
-ghost use Rattle.trace_model.specs.Meaning.{meaning, nothing_given};
-ghost use Rattle.trace_model.specs.Output.{due_text};
-ghost use Rattle.trace_model.specs.declared.trace.TraceFault.{TraceFault};
-ghost use Rattle.trace_model.specs.declared.trace.Cause.TheVariants.{NotYet};
-ghost use Rattle.gpl_play.specs.Modules.{HasValidModules};
+ghost use Rattle.trace_model.specs.Reading.{HasTraceFault};
 ghost use Rattle.gpl_play.specs.Reads.{ReadsSome};
-ghost use Rattle.gpl_play.specs.Runs.{IsPlay, NoFault, WritesDue, WritesDueFront, IsNoTrace, IsRefusedIfNoTrace, IsPlayedIfTrace};
+ghost use Rattle.gpl_play.specs.Runs.{IsPlay, IsPlayText, NoFault, WritesDue, WritesDueFront, IsNoTrace, IsRefusedIfNoTrace, IsPlayedIfTrace};
 
+use crate::call::is_play;
+use crate::ending::{ended, stopped, told};
 use crate::outcome::Outcome;
-use crate::read::{ReadStop, read_all};
+use crate::play::text_of_play;
 use crate::status::{DONE, NO_MEMORY, READ_FAILED, REFUSED, USAGE, WRITE_FAILED};
-use crate::write::write_all;
+use crate::take::take_trace;
 use gpl_edge::{Gate, Sink, Source};
-use int_device::draw;
-use limits::{COMPONENTS, DESCRIPTOR_BINDINGS, DESCRIPTOR_SETS, ENTRIES, LOCATIONS, PUSH_WORDS};
-use spirv_model::{Items, Words};
-use spv_check::valid_module;
-use spv_exec::run_stage;
-use stage_model::{Ended, Inputs};
-use state_model::{Buffers, SpecValues};
-use std::alloc::{AllocError, Global};
+use std::alloc::Global;
 use std::sync::Wait;
 use std::thread::Threads;
-use trace_text::{Cause, Trace, TraceFault, print_target, read_trace};
 
 /// Plays the trace that the source gives, and writes its text to the sink. `words` are the program's words without its
 /// name, of which `play` alone is a call. The first of these events ends the call: other words, a failed read, bytes
@@ -48,14 +34,14 @@ pub fn run<R: Threads + Wait + Sync, S: Source, K: Sink, G: Gate>(
 
     // All text was written, and nothing else: what the trace means, by its own modules.
     ensures done { result.status ≡ DONE
-        → WritesDue (S.left source.old) (K.held sink.old) (K.held sink.new) }
+        → WritesDue IsPlayText (S.left source.old) (K.held sink.old) (K.held sink.new) }
     ensures read { result.status ≡ DONE → IsAtEnd (S.left source.new) }
 
     ensures usage { (result.status ≡ USAGE)
         ↔ (IsPlay (map string_bytes words.now.items) → ⊥) }
     ensures unread { result.status ≡ USAGE → Keeps (S.left source.old) (S.left source.new) }
 
-    // Bytes that are no trace: exactly at them, where no read failed.
+    // Bytes that are no trace: exactly at them, where no read failed, with the first faulty line and the first cause on it.
     ensures refused { result.status ≡ REFUSED → IsNoTrace (S.left source.old) }
     ensures refused_read { result.status ≡ REFUSED
         → ReadsSome (S.left source.old) (S.left source.new) }
@@ -64,7 +50,7 @@ pub fn run<R: Threads + Wait + Sync, S: Source, K: Sink, G: Gate>(
         → IfSome (S.left source.old) (IsRefusedIfNoTrace result.status) }
     ensures fault { IsSome result.fault ↔ (result.status ≡ REFUSED) }
     ensures fault_line { IfSome result.fault
-        (λ fault. fault ≡ record { line = 0; cause = NotYet }) }
+        (λ fault. IfSome (S.left source.old) (λ bytes. HasTraceFault bytes fault)) }
 
     ensures read_failed { result.status ≡ READ_FAILED
         → Rose (S.faults source.old) (S.faults source.new) }
@@ -74,7 +60,7 @@ pub fn run<R: Threads + Wait + Sync, S: Source, K: Sink, G: Gate>(
     ensures write_failed { result.status ≡ WRITE_FAILED
         → Rose (K.faults sink.old) (K.faults sink.new) }
     ensures front { result.status ≡ WRITE_FAILED
-        → WritesDueFront (S.left source.old) (K.held sink.old) (K.held sink.new) }
+        → WritesDueFront IsPlayText (S.left source.old) (K.held sink.old) (K.held sink.new) }
     ensures front_read { result.status ≡ WRITE_FAILED → IsAtEnd (S.left source.new) }
     ensures writes_counted { result.status ≢ WRITE_FAILED
         → K.faults sink.new ≡ K.faults sink.old }
@@ -92,106 +78,11 @@ pub fn run<R: Threads + Wait + Sync, S: Source, K: Sink, G: Gate>(
     if !is_play(words) {
         return ended(USAGE);
     }
-    let bytes = match read_all(alloc, source) {
-        Ok(bytes) => bytes,
-        Err(ReadStop::Failed) => return ended(READ_FAILED),
-        Err(ReadStop::Memory) => return ended(NO_MEMORY),
-    };
-    let trace = match read_trace(alloc, bytes.as_slice()) {
-        Ok(trace) => trace,
-        Err(
-            TraceFault {
-                cause: Cause::Memory,
-                ..
-            },
-        ) => return ended(NO_MEMORY),
-        Err(fault) => return refused(fault),
-    };
-    let Ok(text) = play(alloc, trace) else {
-        return ended(NO_MEMORY);
-    };
-    match write_all(sink, text.as_slice()) {
-        Ok(()) => ended(DONE),
-        Err(_) => ended(WRITE_FAILED),
-    }
-}
-
-fn is_play(words: &Vec<String>) -> bool
-    ensures { IsTrue result ↔ IsPlay (map string_bytes words.now.items) }
-{
-    match words.as_slice() {
-        [word] => word.as_str() == "play",
-        _ => false,
-    }
-}
-
-fn ended(status: u8) -> Outcome
-    ensures status { result.status ≡ status }
-    ensures fault { IsNone result.fault }
-    ensures report { IsNone result.report }
-{
-    Outcome {
-        status,
-        fault: None,
-        report: None,
-    }
-}
-
-fn refused(fault: TraceFault) -> Outcome
-    ensures status { result.status ≡ REFUSED }
-    ensures fault { result.fault ≡ Some fault }
-    ensures report { IsNone result.report }
-{
-    Outcome {
-        status: REFUSED,
-        fault: Some(fault),
-        report: None,
-    }
-}
-
-/// The text that is due to a trace.
-fn play(alloc: Global, trace: Trace) -> Result<Vec<u8>, AllocError>
-    requires means { IsSome (meaning trace) }
-    requires target { HasLimitedSides trace.target }
-    requires modules { HasValidModules trace }
-    ensures { IfOk result (λ text. due_text trace ≡ Some text.items) }
-{
-    let Trace {
-        vertex,
-        fragment,
-        target,
-    } = trace;
-    let vertex = outcome(alloc, vertex)?;
-    let fragment = outcome(alloc, fragment)?;
-    let words = draw(alloc, &vertex, &fragment, &target)?;
-    print_target(alloc, &target, words.as_slice())
-}
-
-/// What an invocation of a module leaves that is given nothing.
-fn outcome(alloc: Global, words: Words) -> Result<Ended, AllocError>
-    requires { IsValidList words }
-    ensures { IfOk result (λ ended. option_map ended_of (stage words.insts nothing_given) ≡ Some ended) }
-{
-    let module = valid_module(alloc, words)?;
-    let entries = SpecValues {
-        entries: [None; ENTRIES],
-    };
-    let list = Items::new(alloc);
-    run_stage(alloc, &module, &entries, &nothing(), &Buffers { list })
-}
-
-/// Zeros for inputs, and nothing bound.
-#[tactic(auto, unfolding(trace_model::specs::Meaning::nothing_given))]
-fn nothing() -> Inputs
-    ensures { result ≡ nothing_given.inputs }
-{
-    Inputs {
-        slots: [[0; COMPONENTS]; LOCATIONS],
-        vertex_index: 0,
-        instance_index: 0,
-        frag_coord: [0; COMPONENTS],
-        front: false,
-        push: [0; PUSH_WORDS as usize],
-        uniforms: [[None; DESCRIPTOR_BINDINGS]; DESCRIPTOR_SETS],
+    match take_trace(alloc, source) {
+        Ok(trace) => match text_of_play(alloc, trace) {
+            Ok(text) => told(sink, text.as_slice()),
+            Err(_) => ended(NO_MEMORY),
+        },
+        Err(stop) => stopped(stop),
     }
 }

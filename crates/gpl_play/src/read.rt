@@ -4,8 +4,8 @@ ghost use Rattle.basics.specs.Count.{Rose};
 ghost use Rattle.gpl_play.specs.Reads.{Reads};
 
 use gpl_edge::Source;
+use limits::TRACE_BYTES;
 use std::alloc::Global;
-use trace_model::TRACE_LIMIT;
 
 /// How many bytes a read asks for at most.
 const CHUNK: usize = 4096;
@@ -28,8 +28,8 @@ pub fn read_all<S: Source>(alloc: Global, source: &mut S) -> Result<Vec<u8>, Rea
 {
     let mut bytes = Vec::new(alloc);
     let mut buffer = [0; CHUNK];
-    while bytes.len() <= TRACE_LIMIT {
-        let room = (TRACE_LIMIT + 1 - bytes.len()).min(CHUNK);
+    while bytes.len() <= TRACE_BYTES {
+        let room = (TRACE_BYTES + 1 - bytes.len()).min(CHUNK);
         let Ok(count) = source.read(&mut buffer[..room]) else {
             return Err(ReadStop::Failed);
         };

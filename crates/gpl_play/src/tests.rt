@@ -1,7 +1,7 @@
 //! Plays over sources and sinks in memory, with the answers that the format's rules give.
 ghost use Rattle.std.specs.Prelude.{◌<◌};
 
-use crate::{Cause, Outcome, TraceFault, run};
+use crate::{Cause, Outcome, TraceFault, run, run_still};
 use gpl_edge::{FirmSource, MemSink, MemSource, NoGate, Sink, Source};
 use std::alloc::{AllocError, Global};
 use std::sync::Wait;
@@ -31,7 +31,7 @@ const FRAGMENT_END: &str =
     " 00050036 00000001 00000007 00000000 00000002 000200f8 00000008 0003003e 00000005 00000006 000100fd \
      00010038";
 
-/// A fragment module that divides, which is not read yet.
+/// A fragment module that divides 100 by a specialization constant, which is 7 where nothing sets it.
 const OTHER: &str =
     "code 07230203 00010000 00000000 0000000b 00000000 00020011 00000001 0003000e 00000000 00000001 0006000f \
      00000004 00000007 6e69616d 00000000 00000005 00030010 00000007 00000007 00040047 00000005 0000001e \
@@ -120,20 +120,52 @@ fn plays_one_point(rt: HostRuntime) -> Result<(), Fail> {
 #[test]
 fn refuses_what_is_no_trace(rt: HostRuntime) -> Result<(), Fail> {
     let text = point(rt.alloc())?;
-    let vertex = format!(in rt.alloc(); "{VERTEX}00000080{VERTEX_END}")?;
-    let other = trace(rt.alloc(), vertex.as_str(), OTHER, "2 1 1 1 00000000")?;
     let (_, cut) = text.as_bytes().split_last().ok_or("empty")?;
-    for bytes in [other.as_bytes(), cut, b"".as_slice()] {
+    let unknown = trace(rt.alloc(), "data", "data", "2 1 1 1 00000000")?;
+    for (bytes, line, cause) in [
+        (cut, 12, Cause::BadLine),
+        (b"".as_slice(), 1, Cause::NoHeader),
+        (unknown.as_bytes(), 6, Cause::Unknown),
+    ] {
         let mut source = FirmSource::new(bytes.to_vec(rt.alloc())?);
         let mut sink = sink(rt.alloc(), 4096, Vec::new(rt.alloc()))?;
         let outcome = play(&rt, rt.alloc(), &["play"], &mut source, &mut sink)?;
         assert_eq!(rt; outcome.status, 2);
-        let fault = TraceFault {
-            line: 0,
-            cause: Cause::NotYet,
-        };
-        assert!(rt; outcome.fault == Some(fault));
+        assert!(rt; outcome.fault == Some(TraceFault { line, cause }));
         assert!(rt; sink.held().is_empty());
+    }
+    Ok(())
+}
+
+#[test]
+fn plays_modules_of_any_form(rt: HostRuntime) -> Result<(), Fail> {
+    let vertex = format!(in rt.alloc(); "{VERTEX}00000080{VERTEX_END}")?;
+    let text = trace(rt.alloc(), vertex.as_str(), OTHER, "2 1 1 1 00000000")?;
+    let mut source = FirmSource::new(text.as_bytes().to_vec(rt.alloc())?);
+    let mut sink = sink(rt.alloc(), 4096, Vec::new(rt.alloc()))?;
+    let outcome = play(&rt, rt.alloc(), &["play"], &mut source, &mut sink)?;
+    assert_eq!(rt; outcome.status, 0);
+    let want = "target 0 u1 2 1 1 1\n0000000e 00000000\n";
+    assert_eq!(rt; sink.held(), want.as_bytes());
+    Ok(())
+}
+
+#[test]
+fn prints_modules_and_links(rt: HostRuntime) -> Result<(), Fail> {
+    let text = point(rt.alloc())?;
+    for (word, want) in [
+        (
+            "check",
+            "code 0 vertex 0 0 0 68\ncode 1 fragment 0 1 0 56\n",
+        ),
+        ("links", "pipe 0 ok ok\n"),
+    ] {
+        let words = vec![in rt.alloc(); String::from_str(rt.alloc(), word)?]?;
+        let mut source = FirmSource::new(text.as_bytes().to_vec(rt.alloc())?);
+        let mut sink = sink(rt.alloc(), 4096, Vec::new(rt.alloc()))?;
+        let outcome = run_still(rt.alloc(), &words, &mut source, &mut sink);
+        assert_eq!(rt; outcome.status, 0);
+        assert_eq!(rt; sink.held(), want.as_bytes());
     }
     Ok(())
 }

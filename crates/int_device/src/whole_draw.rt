@@ -3,7 +3,7 @@ ghost use Rattle.std.specs.Prelude.{◌≡◌, ◌<◌, ◌≤◌, length, slice
 ghost use Rattle.state_model.specs.Lawful.{IsFragmentPart, IsOutputPart};
 ghost use Rattle.draw_model.specs.LawfulDraw.{LawfulDraw, IsCall, IsSide};
 ghost use Rattle.draw_model.specs.WholeDraw.{effort, image, primitive_count, primitives};
-ghost use Rattle.int_device.specs.Modules.{fragment_insts};
+ghost use Rattle.int_device.specs.Modules.{fragment_insts, insts_of};
 ghost use Rattle.int_device.specs.Scenes.{DrawsAll, HasDynamic, shade_of};
 
 use crate::canvas::Canvas;
@@ -17,8 +17,7 @@ use spv_check::Module;
 use state_model::{Buffers, State, Topology};
 use std::alloc::{AllocError, Global};
 
-/// Draws (Vulkan specification, "Drawing Commands", `vkCmdDraw`) into the targets that are bound, and answers the work: the
-/// steps of all shader invocations. Only want of memory is an error, and then nothing is drawn.
+/// Draws as `draw_modules` does, with the modules of a unit.
 pub fn draw(
     alloc: Global,
     unit: &Unit,
@@ -36,18 +35,51 @@ pub fn draw(
         state.now dynamic.now call.now buffers.now) }
     ensures err { OnErr result (targets.new ≡ targets.old) }
 {
-    let mut vertices = Vertices::new(alloc, unit.vertex(), state, dynamic, call, buffers)?;
-    let mut shading = shading_of(alloc, unit, state, dynamic, buffers)?;
+    draw_modules(
+        alloc,
+        unit.vertex(),
+        unit.fragment(),
+        state,
+        dynamic,
+        call,
+        buffers,
+        targets,
+    )
+}
+
+/// Draws (Vulkan specification, "Drawing Commands", `vkCmdDraw`) into the targets that are bound, and answers the work: the
+/// steps of all shader invocations. There is no fragment module where rasterization is discarded. Only want of memory is an
+/// error, and then nothing is drawn.
+pub fn draw_modules(
+    alloc: Global,
+    vertex: &Module,
+    fragment: Option<&Module>,
+    state: &State,
+    dynamic: &Dynamic,
+    call: &DrawCall,
+    buffers: &Buffers,
+    targets: &mut Targets,
+) -> Result<u64, AllocError>
+    requires { LawfulDraw vertex.now.insts (insts_of fragment)
+        state.now dynamic.now call.now buffers.now targets.old }
+    ensures image { OnOk result (targets.new ≡ image vertex.now.insts (insts_of fragment)
+        state.now dynamic.now call.now buffers.now targets.old) }
+    ensures work { IfOk result (λ work. work ≡ effort vertex.now.insts (insts_of fragment)
+        state.now dynamic.now call.now buffers.now) }
+    ensures err { OnErr result (targets.new ≡ targets.old) }
+{
+    let mut vertices = Vertices::new(alloc, vertex, state, dynamic, call, buffers)?;
+    let mut shading = shading_of(alloc, fragment, state, dynamic, buffers)?;
     let mut canvas = Canvas::open(alloc, targets)?;
     let work = draw_primitives(&mut vertices, &mut shading, state, call, &mut canvas);
     canvas.close(targets);
     Ok(work)
 }
 
-// The fragment stage, where the unit and the state have one.
+// The fragment stage, where there is a module for it and the state has one.
 fn shading_of<'a>(
     alloc: Global,
-    unit: &'a Unit,
+    fragment: Option<&'a Module>,
     state: &'a State,
     dynamic: &'a Dynamic,
     buffers: &'a Buffers,
@@ -59,9 +91,9 @@ fn shading_of<'a>(
     requires scissor_y { let sides = dynamic.now.scissor in
         IsSide (slice_index sides 1) (slice_index sides 3) }
     ensures { IfOk result
-        (λ s. s ≡ shade_of (fragment_insts unit.now) state.now dynamic.now buffers.now) }
+        (λ s. s ≡ shade_of (insts_of fragment) state.now dynamic.now buffers.now) }
 {
-    let Some(shader) = unit.fragment() else {
+    let Some(shader) = fragment else {
         return Ok(None);
     };
     let Some(part) = &state.fragment else {
