@@ -1,7 +1,6 @@
 pub mod Agreement
 pub mod Assembly
 pub mod Coverage
-pub mod Draw
 pub mod Fetch
 pub mod Invocation
 pub mod LawfulDraw

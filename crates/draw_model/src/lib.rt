@@ -5,9 +5,7 @@
 pub mod command;
 pub mod framebuffer;
 mod position;
-mod target;
 
 pub use command::{DrawCall, Dynamic};
-pub use framebuffer::Targets;
+pub use framebuffer::{Target, Targets};
 pub use position::Position;
-pub use target::Target;

@@ -9,7 +9,7 @@ use gpl_edge::Source;
 use std::alloc::Global;
 use trace_model::line_fault::TraceFault;
 use trace_model::whole::Trace;
-use trace_text::{ReadFault, read_whole};
+use trace_text::{ReadFault, read_trace};
 
 /// Why no trace was taken.
 #[derive(Clone, Copy, Debug, Drop, PartialEq, Eq)]
@@ -34,7 +34,7 @@ pub fn take_trace<S: Source>(alloc: Global, source: &mut S) -> Result<Trace, Sto
         Err(ReadStop::Failed) => return Err(Stop::Failed),
         Err(ReadStop::Memory) => return Err(Stop::Memory),
     };
-    match read_whole(alloc, bytes.as_slice()) {
+    match read_trace(alloc, bytes.as_slice()) {
         Ok(trace) => Ok(trace),
         Err(ReadFault::Memory) => Err(Stop::Memory),
         Err(ReadFault::Fault(fault)) => Err(Stop::Refused(fault)),

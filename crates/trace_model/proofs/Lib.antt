@@ -9,13 +9,10 @@ pub mod LawfulDynamics
 pub mod LawfulParts
 pub mod LawfulPlays
 pub mod LawfulTraces
-pub mod Meanings
 pub mod ModuleWords
 pub mod ReadingLaws
-pub mod Samples
 pub mod SeveralFields
 pub mod SpecIdLaws
-pub mod Targets
 pub mod TraceLimits
 pub mod WorkedFaults
 pub mod WorkedLines

@@ -1,14 +1,11 @@
 pub mod FaultText
 pub mod Fields
-pub mod Form
 pub mod LawfulPlay
 pub mod LibraryLines
 pub mod LineForms
 pub mod Lines
 pub mod LinesBefore
-pub mod Meaning
 pub mod ObjectCauses
-pub mod Output
 pub mod PartCauses
 pub mod Pipes
 pub mod PlayText

@@ -16,21 +16,6 @@ lines_of bytes = slice_split (λ b. b == 10) bytes
 abbrev pub fields_of : List ℕ → List (List ℕ)
 fields_of line = slice_split (λ b. b == 32) line
 
--- the parts after the first, which is this text
-abbrev pub after_part : List ℕ → List (List ℕ) → Option (List (List ℕ))
-after_part text [] = None
-after_part text (part ∷ parts) = if bytes_eq part text then Some parts else None
-
--- the first part, and those after it
-abbrev pub next_part : List (List ℕ) → Option (List ℕ × List (List ℕ))
-next_part [] = None
-next_part (part ∷ parts) = Some (part, parts)
-
--- no part is left
-abbrev pub no_part : List (List ℕ) → Option (Unit {0})
-no_part [] = Some tt
-no_part (part ∷ parts) = None
-
 -- the value of a lower-case hexadecimal digit
 abbrev pub hex_value : ℕ → Option ℕ
 hex_value b =
@@ -46,11 +31,6 @@ hex_onto n (b ∷ bs) = option_and_then (λ digit. hex_onto (16 * n + digit) bs)
 -- a word: eight lower-case hexadecimal digits
 abbrev pub word_value : List ℕ → Option ℕ
 word_value bs = if length bs == 8 then hex_onto 0 bs else None
-
--- the words that these parts spell, each of them
-abbrev pub word_values : List (List ℕ) → Option (List ℕ)
-word_values [] = Some []
-word_values (part ∷ parts) = option_and_then (λ word. option_map (λ words. word ∷ words) (word_values parts)) (word_value part)
 
 -- the value of a decimal digit
 abbrev pub decimal_digit : ℕ → Option ℕ

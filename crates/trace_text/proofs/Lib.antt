@@ -10,6 +10,5 @@ pub mod Locations
 pub mod OneAnswer
 pub mod Pieces
 pub mod PrintedLines
-pub mod Rows
 pub mod SplitParts
 pub mod Values

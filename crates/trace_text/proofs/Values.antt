@@ -1,9 +1,9 @@
 -- Digits read one by one.
 use Rattle.std.proofs.Common.{◌≡◌, ℕ, ◌+◌, ◌*◌, ◌^◌, ◌<◌, ◌≤◌, List, [], ◌∷◌, ◌++◌, length, drop, get_or, refl, ap, sym, ◌∙◌, arith, add-one, append_assoc, lit<, Option, None, Some}
-use Rattle.std.specs.Option.{option_and_then, option_map}
+use Rattle.std.specs.Option.{option_and_then}
 use Rattle.std.proofs.Math.Nat.{pow-suc, pow-le-pow_right}
 use Rattle.basics.proofs.Lists.{drop_first}
-use Rattle.trace_model.specs.Text.{hex_value, hex_onto, word_value, word_values}
+use Rattle.trace_model.specs.Text.{hex_value, hex_onto}
 
 -- hexadecimal digits
 pub hex_next : (field : List ℕ) (i value digit : ℕ) → i < length field → Some digit ≡ hex_value (get_or field i 0)
@@ -25,24 +25,3 @@ hex_fits value digit i low small within =
     let e : i + 1 ≤ 8 = omega arith in
     let p : 16 ^ (i + 1) ≤ 16 ^ 8 = pow-le-pow_right (lit< tt) e in
     omega (arith, s, p)
-
--- words, behind those that were read
-abbrev pub words_after : List ℕ → Option (List ℕ) → Option (List ℕ)
-words_after words more = option_map (λ (ws : List ℕ). words ++ ws) more
-
-pub words_at_start : (more : Option (List ℕ)) → words_after [] more ≡ more
-words_at_start None = refl
-words_at_start (Some ws) = refl
-
-after_word : (words : List ℕ) (word : ℕ) (more : Option (List ℕ)) → words_after (words ++ word ∷ []) more ≡ words_after words (option_map (λ ws. word ∷ ws) more)
-after_word words word None = refl
-after_word words word (Some ws) = ap (λ (w : List ℕ). Some w) (append_assoc words (word ∷ []) ws)
-
-pub words_next : (words : List ℕ) (word : ℕ) (field : List ℕ) (fields : List (List ℕ)) → word_value field ≡ Some word
-    → words_after (words ++ word ∷ []) (word_values fields) ≡ words_after words (word_values (field ∷ fields))
-words_next words word field fields h =
-    after_word words word (word_values fields)
-    ∙ ap (λ (v : Option ℕ). words_after words (option_and_then (λ w. option_map (λ ws. w ∷ ws) (word_values fields)) v)) (sym h)
-
-pub words_none : (words : List ℕ) (field : List ℕ) (fields : List (List ℕ)) → word_value field ≡ None → words_after words (word_values (field ∷ fields)) ≡ None
-words_none words field fields h = ap (λ (v : Option ℕ). words_after words (option_and_then (λ w. option_map (λ ws. w ∷ ws) (word_values fields)) v)) h

@@ -1,9 +1,7 @@
 ghost use Rattle.std.specs.Prelude.{◌≡◌, ◌==◌, ◌∷◌, ◌<◌, length, IfSome, position};
-ghost use Rattle.trace_model.specs.Text.{after_part, no_part};
-ghost use Rattle.trace_text.specs.Answers.{Gives, TakesFirst, parts_left, parts_of};
+ghost use Rattle.trace_text.specs.Answers.{TakesFirst, parts_left, parts_of};
 
 use std::marker::Model;
-use trace_model::Cause;
 
 /// Goes over the fields of a line, or the lines of a text: over the parts that are left, where it is cut at each separator.
 /// Contracts see it as the list of these parts.
@@ -41,29 +39,6 @@ impl<'a> FieldCursor<'a> {
         let (part, after) = cut_first(rest, self.separator);
         self.rest = after;
         Some(part)
-    }
-
-    /// Passes the next part, which has to be this text.
-    pub fn expect(&mut self, text: &[u8]) -> Result<(), Cause>
-        ensures { Gives (λ _. self.new) result (after_part text.now self.old) }
-    {
-        let Some(part) = self.next_part() else {
-            return Err(Cause::NotYet);
-        };
-        if part != text {
-            return Err(Cause::NotYet);
-        }
-        Ok(())
-    }
-
-    /// No part may be left.
-    pub fn end(&mut self) -> Result<(), Cause>
-        ensures { Gives (λ u. u) result (no_part self.old) }
-    {
-        match self.next_part() {
-            Some(_) => Err(Cause::NotYet),
-            None => Ok(()),
-        }
     }
 }
 

@@ -10,19 +10,16 @@ mod fault_lines;
 mod few;
 mod field_cursor;
 mod field_values;
-mod form;
 mod kept_steps;
 mod kept_targets;
 mod library_lines;
 mod line_kind;
 mod made;
 mod module_parts;
-mod modules;
 mod number;
 mod numbers;
 mod parts;
 mod places;
-mod print;
 mod print_modules;
 mod print_rules;
 mod print_targets;
@@ -32,16 +29,14 @@ mod setup_lines;
 mod taking;
 
 pub use fault_lines::{fault_line, memory_line, read_line, usage_line, write_line};
-pub use form::read_trace;
-pub use print::print_target;
 pub use print_modules::check_text;
 pub use print_rules::{links_text, play_text};
-pub use reading::{ReadFault, read_whole};
-pub use trace_model::{Cause, Serve, Trace, TraceFault};
+pub use reading::{ReadFault, read_trace};
+pub use trace_model::Serve;
+pub use trace_model::line_fault::{Cause, TraceFault};
+pub use trace_model::whole::Trace;
 
 #[cfg(test)]
 mod print_tests;
 #[cfg(test)]
-mod tests;
-#[cfg(test)]
-mod whole_tests;
+mod reading_tests;

@@ -34,7 +34,7 @@ pub enum ReadFault {
 
 /// The trace of these bytes, of version 1 or 2. Bytes that are none are refused with the first faulty line and the first
 /// cause on it.
-pub fn read_whole(alloc: Global, bytes: &[u8]) -> Result<Trace, ReadFault>
+pub fn read_trace(alloc: Global, bytes: &[u8]) -> Result<Trace, ReadFault>
     ensures fault { UnlessMemory is_want (IsTraceOf bytes.now) (HasFault bytes.now) result }
     ensures exact { (trace : trace.Trace) → IsTraceOf bytes.now trace → IsExactly trace result }
     ensures only { (fault : declared.TraceFault) → HasTraceFault bytes.now fault

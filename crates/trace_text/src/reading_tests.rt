@@ -1,5 +1,4 @@
-use crate::tests::TRACE;
-use crate::{ReadFault, read_whole};
+use crate::{ReadFault, read_trace};
 use check_model::CheckFault;
 use draw_model::DrawCall;
 use limits::TRACE_BYTES;
@@ -13,6 +12,33 @@ use std::test::Fail;
 use trace_model::line_fault::{Cause, TraceFault};
 use trace_model::whole::{Library, Step, Trace};
 
+/// One point in colour 42 on a target of two pixels.
+const TRACE: &[u8] = b"\
+    gplt 1\n\
+    code 07230203 00010000 00000000 0000000c 00000000 00020011 00000001 0003000e 00000000 00000001 \
+    0006000f 00000000 0000000a 6e69616d 00000000 00000006 00040047 00000006 0000000b 00000000 00020013 \
+    00000001 00030021 00000002 00000001 00040015 00000003 00000020 00000001 00040017 00000004 00000003 \
+    00000004 00040020 00000005 00000003 00000004 0004003b 00000005 00000006 00000003 0004002b 00000003 \
+    00000007 00000000 0004002b 00000003 00000008 00000080 0007002c 00000004 00000009 00000008 00000008 \
+    00000007 00000007 00050036 00000001 0000000a 00000000 00000002 000200f8 0000000b 0003003e 00000006 \
+    00000009 000100fd 00010038\n\
+    code 07230203 00010000 00000000 00000009 00000000 00020011 00000001 0003000e 00000000 00000001 \
+    0006000f 00000004 00000007 6e69616d 00000000 00000005 00030010 00000007 00000007 00040047 00000005 \
+    0000001e 00000000 00020013 00000001 00030021 00000002 00000001 00040015 00000003 00000020 00000000 \
+    00040020 00000004 00000003 00000003 0004003b 00000004 00000005 00000003 0004002b 00000003 00000006 \
+    0000002a 00050036 00000001 00000007 00000000 00000002 000200f8 00000008 0003003e 00000005 00000006 \
+    000100fd 00010038\n\
+    layout 0 0 - - - -\n\
+    vertex 1 points - - - -\n\
+    prerast 1 0 0 0 0 0 cw\n\
+    fragment 1 1 0 0 - -\n\
+    output 1 0 1:1 - u1:1 - - -\n\
+    pipe 0 1 2 3\n\
+    target 0 u1 2 1 1 1 00000000\n\
+    bind 0 0 - - - -\n\
+    draw 0 0 0 1 0 1\n";
+
+#[test]
 /// A trace of a version with a vertex module in line 2, a fragment module in line 3, and these lines from line 4 on.
 fn text_of(alloc: Global, version: &[u8], lines: &[u8]) -> Result<Vec<u8>, AllocError> {
     let mut text = Vec::new(alloc);
@@ -49,7 +75,7 @@ const LINES: &[u8] = b"\
 
 fn read_lines(alloc: Global, version: &[u8], lines: &[u8]) -> Result<Trace, ReadFault> {
     match text_of(alloc, version, lines) {
-        Ok(text) => read_whole(alloc, text.as_slice()),
+        Ok(text) => read_trace(alloc, text.as_slice()),
         Err(_) => Err(ReadFault::Memory),
     }
 }
@@ -80,10 +106,8 @@ fn objects_are_read(rt: HostRuntime) -> Result<(), Fail> {
     Ok(())
 }
 
-#[test]
-fn libraries_are_read(rt: HostRuntime) -> Result<(), Fail> {
-    let trace = read_lines(rt.alloc(), b"2", LINES)?;
-    assert_eq!(rt; trace.libs.len(), 4);
+/// What the line `vertex` says.
+fn vertex_part() -> VertexPart {
     let mut bindings = [None; 4];
     bindings[0] = Some(VertexBinding {
         stride: 4,
@@ -106,13 +130,16 @@ fn libraries_are_read(rt: HostRuntime) -> Result<(), Fail> {
         signed: true,
         offset: 1023,
     });
-    let vertex = Library::Vertex(VertexPart {
+    VertexPart {
         retain: true,
         topology: Topology::Triangles,
         bindings,
         attributes,
-    });
-    assert_eq!(rt; trace.libs.get(0).copied(), Some(vertex));
+    }
+}
+
+/// What the line `output` says.
+fn output_part() -> OutputPart {
     let mut attachments = [None; 8];
     attachments[0] = Some(Attachment {
         format: 1,
@@ -122,7 +149,7 @@ fn libraries_are_read(rt: HostRuntime) -> Result<(), Fail> {
         format: 8,
         write_mask: 15,
     });
-    let output = Library::Output(OutputPart {
+    OutputPart {
         retain: false,
         view_mask: 3,
         multisample: Multisample {
@@ -131,15 +158,28 @@ fn libraries_are_read(rt: HostRuntime) -> Result<(), Fail> {
         },
         logic: Some(15),
         attachments,
-    });
-    assert_eq!(rt; trace.libs.get(3).copied(), Some(output));
+    }
+}
+
+#[test]
+fn libraries_are_read(rt: HostRuntime) -> Result<(), Fail> {
+    let trace = read_lines(rt.alloc(), b"2", LINES)?;
+    assert_eq!(rt; trace.libs.len(), 4);
+    assert_eq!(rt;
+        trace.libs.get(0).copied(),
+        Some(Library::Vertex(vertex_part()))
+    );
+    assert_eq!(rt;
+        trace.libs.get(3).copied(),
+        Some(Library::Output(output_part()))
+    );
     Ok(())
 }
 
 #[test]
-fn shaders_are_read_with_their_layouts(rt: HostRuntime) -> Result<(), Fail> {
+fn a_vertex_shader_is_read_with_its_layout(rt: HostRuntime) -> Result<(), Fail> {
     let trace = read_lines(rt.alloc(), b"2", LINES)?;
-    let Some(Library::Prerast(prerast)) = trace.libs.get(1).copied() else {
+    let Some(Library::Prerast(part)) = trace.libs.get(1).copied() else {
         return Err("no shader".into());
     };
     let layout = Layout {
@@ -147,23 +187,23 @@ fn shaders_are_read_with_their_layouts(rt: HostRuntime) -> Result<(), Fail> {
         push_words: 32,
         sets: [Some(255), None, Some(0), None],
     };
-    assert_eq!(rt; prerast.layout, layout);
-    assert_eq!(rt;
-        (prerast.module, prerast.view_mask, prerast.cull),
-        (0, 15, 3)
-    );
-    assert_eq!(rt;
-        (prerast.retain, prerast.discard, prerast.ccw),
-        (false, true, true)
-    );
+    assert_eq!(rt; part.layout, layout);
+    assert_eq!(rt; (part.module, part.view_mask, part.cull), (0, 15, 3));
+    assert_eq!(rt; (part.retain, part.discard, part.ccw), (false, true, true));
     let last = Entry {
         id: 4_294_967_295,
         value: 0xffff_ffff,
     };
-    assert_eq!(rt; prerast.entries.entries[1], Some(last));
-    assert_eq!(rt; prerast.entries.entries[2], None);
-    let Some(Library::Fragment(fragment)) = trace.libs.get(2).copied() else {
-        return Err("no fragment shader".into());
+    assert_eq!(rt; part.entries.entries[1], Some(last));
+    assert_eq!(rt; part.entries.entries[2], None);
+    Ok(())
+}
+
+#[test]
+fn a_fragment_shader_is_read(rt: HostRuntime) -> Result<(), Fail> {
+    let trace = read_lines(rt.alloc(), b"2", LINES)?;
+    let Some(Library::Fragment(part)) = trace.libs.get(2).copied() else {
+        return Err("no shader".into());
     };
     let depth = Depth {
         compare: 7,
@@ -173,16 +213,14 @@ fn shaders_are_read_with_their_layouts(rt: HostRuntime) -> Result<(), Fail> {
         samples: 4,
         mask: 15,
     };
-    assert_eq!(rt; (fragment.module, fragment.layout.push_words), (1, 0));
-    assert_eq!(rt;
-        (fragment.depth, fragment.multisample),
-        (Some(depth), Some(multisample))
-    );
+    assert_eq!(rt; (part.module, part.layout.push_words), (1, 0));
+    assert_eq!(rt; part.depth, Some(depth));
+    assert_eq!(rt; part.multisample, Some(multisample));
     Ok(())
 }
 
 #[test]
-fn steps_are_read_in_order(rt: HostRuntime) -> Result<(), Fail> {
+fn buffers_are_bound_in_order(rt: HostRuntime) -> Result<(), Fail> {
     let trace = read_lines(rt.alloc(), b"2", LINES)?;
     let steps = trace.steps.as_slice();
     assert_eq!(rt; steps.len(), 6);
@@ -198,8 +236,8 @@ fn steps_are_read_in_order(rt: HostRuntime) -> Result<(), Fail> {
         (
             0,
             Step::Ubuf {
-                set: 1,
-                binding: 7,
+                set,
+                binding,
                 buffer,
             },
         ),
@@ -207,7 +245,14 @@ fn steps_are_read_in_order(rt: HostRuntime) -> Result<(), Fail> {
     else {
         return Err("no ubuf".into());
     };
-    assert_eq!(rt; *buffer, None);
+    assert_eq!(rt; (*set, *binding, *buffer), (1, 7, None));
+    Ok(())
+}
+
+#[test]
+fn draws_are_read_in_order(rt: HostRuntime) -> Result<(), Fail> {
+    let trace = read_lines(rt.alloc(), b"2", LINES)?;
+    let steps = trace.steps.as_slice();
     let Some((1, Step::Scissor { rect })) = steps.get(3) else {
         return Err("no scissor".into());
     };
@@ -231,7 +276,7 @@ fn steps_are_read_in_order(rt: HostRuntime) -> Result<(), Fail> {
 
 #[test]
 fn version_1_has_four_attachments(rt: HostRuntime) -> Result<(), Fail> {
-    let trace = read_whole(rt.alloc(), TRACE)?;
+    let trace = read_trace(rt.alloc(), TRACE)?;
     assert_eq!(rt;
         (trace.libs.len(), trace.pipes.len(), trace.steps.len()),
         (4, 1, 2)
@@ -258,7 +303,7 @@ fn on_line(line: u32, cause: Cause) -> Option<ReadFault> {
 
 #[test]
 fn each_cause_is_told_with_its_line(rt: HostRuntime) -> Result<(), Fail> {
-    let no_header = read_whole(rt.alloc(), b"gplt 3\n").err();
+    let no_header = read_trace(rt.alloc(), b"gplt 3\n").err();
     assert_eq!(rt; no_header, on_line(1, Cause::NoHeader));
     assert_eq!(rt; fault_of(rt.alloc(), b"draw\n"), on_line(4, Cause::BadLine));
     assert_eq!(rt; fault_of(rt.alloc(), b"data"), on_line(4, Cause::BadLine));
@@ -309,10 +354,10 @@ fn long_text(alloc: Global, size: usize) -> Result<Vec<u8>, AllocError> {
 fn the_longest_trace_is_read_and_no_longer_one(rt: HostRuntime) -> Result<(), Fail> {
     let mut text = long_text(rt.alloc(), TRACE_BYTES)?;
     assert_eq!(rt; text.len(), TRACE_BYTES);
-    let trace = read_whole(rt.alloc(), text.as_slice())?;
+    let trace = read_trace(rt.alloc(), text.as_slice())?;
     assert_eq!(rt; trace.steps.len(), 932_067);
     text.push(b'\n')?;
-    let fault = read_whole(rt.alloc(), text.as_slice()).err();
+    let fault = read_trace(rt.alloc(), text.as_slice()).err();
     assert_eq!(rt; fault, on_line(0, Cause::TooLong));
     Ok(())
 }

@@ -4,7 +4,7 @@ use Rattle.trace_model.proofs.ReadingLaws.{is-reading}
 use Rattle.trace_text.specs.declared.reading.ReadFault.TheVariants.{Fault}
 use Rattle.trace_text.specs.Readings.{HasFault, is_want}
 use Rattle.trace_text.proofs.OneAnswer.{only_trace, no_fault, has_fault, no_trace, only_fault}
-use Rattle.trace_text.proofs.reading.read_whole.Goals as goal
+use Rattle.trace_text.proofs.reading.read_trace.Goals as goal
 
 pub returns-in-Ok-clause-fault : goal.returns-in-Ok-clause-fault
 returns-in-Ok-clause-fault c = is-reading c.args.bytes.now (Ok c.in-Ok.trace) c.in-Ok.ensures
