@@ -17,11 +17,14 @@ use Rattle.gpl_play.specs.Plays.{AreLeftBy}
 
 -- ---- what a rule says of the state, and a state of the rules
 
+abbrev unless_failed : Option Rule → Option State → Option State
+unless_failed failed made = elim failed [ Some rule ↦ None | None ↦ made ]
+
 refused_state : (libs : Libraries) (rule : Rule) → failed_rule libs false ≡ Some rule → state_if_linked libs ≡ None
 unfolding state_if_linked
-refused_state libs rule h = rw h refl
+refused_state libs rule h = ap (λ (failed : Option Rule). unless_failed failed (linked_state libs)) h
 
-no_rule : (failed : Option Rule) (state : State) (made : Option State) → (elim failed [ Some rule ↦ None | None ↦ made ]) ≡ Some state → failed ≡ None
+no_rule : (failed : Option Rule) (state : State) (made : Option State) → unless_failed failed made ≡ Some state → failed ≡ None
 no_rule None state made h = refl
 no_rule (Some rule) state made h = cc
 
@@ -40,9 +43,9 @@ enumerate_more n (y ∷ ys) x =
 pub one_more : (trace : Trace) (front : List RecordedDraw) (drawn : RecordedDraw) (targets : Targets) (refused : List (ℕ × Rule)) → AreLeftBy trace front targets refused
     → AreLeftBy trace (front ++ drawn ∷ []) (after_draw trace targets drawn) (refused ++ filter_map (refusal trace) ((length front, drawn) ∷ []))
 one_more trace front drawn targets refused left = record {
-  targets = ap (λ (t : Targets). after_draw trace t drawn) left.targets ∙ sym (fold-append (after_draw trace) (first_targets trace) front (drawn ∷ []));
-  refused =
-      ap (λ (r : List (ℕ × Rule)). r ++ filter_map (refusal trace) ((length front, drawn) ∷ [])) left.refused
+  targets_are = ap (λ (t : Targets). after_draw trace t drawn) left.targets_are ∙ sym (fold-append (after_draw trace) (first_targets trace) front (drawn ∷ []));
+  refused_are =
+      ap (λ (r : List (ℕ × Rule)). r ++ filter_map (refusal trace) ((length front, drawn) ∷ [])) left.refused_are
       ∙ sym (filter_map-append (refusal trace) (enumerate_from 0 front) ((length front, drawn) ∷ []))
       ∙ ap (filter_map (refusal trace)) (sym (enumerate_more 0 front drawn));
 }

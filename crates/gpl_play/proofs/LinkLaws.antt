@@ -32,7 +32,7 @@ fragment_same trace modules h (library.Vertex part) = refl
 fragment_same trace modules h (library.Prerast part) = refl
 fragment_same trace modules h (library.Output part) = refl
 
-with_shaders : List Library → (Library → Option PrerastLibrary) → (Library → Option FragmentLibrary) → Libraries
+abbrev with_shaders : List Library → (Library → Option PrerastLibrary) → (Library → Option FragmentLibrary) → Libraries
 with_shaders given prerast fragment = record {
   vertex = filter_map vertex_in given;
   prerast = filter_map prerast given;

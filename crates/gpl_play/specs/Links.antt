@@ -29,9 +29,9 @@ with_library modules libs library = let one = libraries_given modules (library �
 
 -- the trace has these objects
 pub record HasObjects (trace : Trace) (modules : List Words) (libs : List Library) (pipes : List (List ℕ)) : Type 0 where
-  pub modules : trace.modules ≡ modules
-  pub libs : trace.libs ≡ libs
-  pub pipes : trace.pipes ≡ pipes
+  pub modules_are : trace.modules ≡ modules
+  pub libs_are : trace.libs ≡ libs
+  pub pipes_are : trace.pipes ≡ pipes
 
 -- libraries link to their state, or a rule fails
 abbrev pub IsLinkOf : Libraries → Result State Rule → Type 0

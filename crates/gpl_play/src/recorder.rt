@@ -53,9 +53,7 @@ fn push_words(dynamic: &mut Dynamic, at: u8, words: &[u32])
     ensures { dynamic.new
         ≡ record dynamic.old { push = words_set at words.now dynamic.old.push } }
 {
-    let mut place = usize::from(at);
-    for word in words {
-        dynamic.push[place] = *word;
-        place += 1;
+    for i in 0..words.len() {
+        dynamic.push[usize::from(at) + i] = words[i];
     }
 }
