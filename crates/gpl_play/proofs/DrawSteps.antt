@@ -17,10 +17,10 @@ use Rattle.gpl_play.specs.Plays.{AreLeftBy}
 
 -- ---- what a rule says of the state, and a state of the rules
 
-abbrev unless_failed : Option Rule → Option State → Option State
+abbrev pub unless_failed : Option Rule → Option State → Option State
 unless_failed failed made = elim failed [ Some rule ↦ None | None ↦ made ]
 
-refused_state : (libs : Libraries) (rule : Rule) → failed_rule libs false ≡ Some rule → state_if_linked libs ≡ None
+pub refused_state : (libs : Libraries) (rule : Rule) → failed_rule libs false ≡ Some rule → state_if_linked libs ≡ None
 unfolding state_if_linked
 refused_state libs rule h = ap (λ (failed : Option Rule). unless_failed failed (linked_state libs)) h
 
@@ -39,6 +39,10 @@ enumerate_more n [] x = ap (λ (k : ℕ). (k, x) ∷ []) (omega arith)
 enumerate_more n (y ∷ ys) x =
     ap (λ rest. (n, y) ∷ rest) (enumerate_more (n + 1) ys x ∙ ap (λ (k : ℕ). enumerate_from (n + 1) ys ++ (k, x) ∷ []) (omega arith))
 
+numbered_more : {X : Type 0} (xs : List X) (x : X) → enumerate_from 0 (xs ++ x ∷ []) ≡ enumerate_from 0 xs ++ (length xs, x) ∷ []
+numbered_more xs x =
+    enumerate_more 0 xs x ∙ ap (λ (k : ℕ). enumerate_from 0 xs ++ (k, x) ∷ []) {x = 0 + length xs} {y = length xs} (omega arith)
+
 -- the targets and the refused draws, with one draw more
 pub one_more : (trace : Trace) (front : List RecordedDraw) (drawn : RecordedDraw) (targets : Targets) (refused : List (ℕ × Rule)) → AreLeftBy trace front targets refused
     → AreLeftBy trace (front ++ drawn ∷ []) (after_draw trace targets drawn) (refused ++ filter_map (refusal trace) ((length front, drawn) ∷ []))
@@ -47,7 +51,7 @@ one_more trace front drawn targets refused left = record {
   refused_are =
       ap (λ (r : List (ℕ × Rule)). r ++ filter_map (refusal trace) ((length front, drawn) ∷ [])) left.refused_are
       ∙ sym (filter_map-append (refusal trace) (enumerate_from 0 front) ((length front, drawn) ∷ []))
-      ∙ ap (filter_map (refusal trace)) (sym (enumerate_more 0 front drawn));
+      ∙ ap (filter_map (refusal trace)) (sym (numbered_more front drawn));
 }
 
 -- a refused draw leaves the targets

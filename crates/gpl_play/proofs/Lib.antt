@@ -1,4 +1,7 @@
 pub mod DrawSteps
+pub mod GivenLibraries
 pub mod LinkLaws
 pub mod Outcomes
+pub mod PipeLinks
+pub mod PlayLaws
 pub mod Streams
