@@ -4,4 +4,5 @@ pub mod LinkLaws
 pub mod Outcomes
 pub mod PipeLinks
 pub mod PlayLaws
+pub mod PlaySteps
 pub mod Streams

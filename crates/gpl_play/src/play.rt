@@ -1,9 +1,12 @@
 //! The text of a trace that is played.
-ghost use Rattle.std.specs.Prelude.{◌≡◌, ℕ, List, [], ◌∷◌, ◌++◌, length, map, IfOk, OnOk};
+ghost use Rattle.std.specs.Prelude.{◌≡◌, ℕ, ◌<◌, List, [], ◌∷◌, ◌++◌, length, map, IfSome, IfOk, OnOk};
+ghost use Rattle.int_device.specs.Modules.{insts_of};
 ghost use Rattle.trace_model.specs.LawfulPlay.{LawfulTrace};
+ghost use Rattle.trace_model.specs.Pipes.{fragment_insts};
 ghost use Rattle.trace_model.specs.PlayText as spec;
 ghost use Rattle.trace_model.specs.Playing.{RecordedDraw, after_linked, draws_of};
 ghost use Rattle.trace_model.specs.declared.whole.Trace as trace;
+ghost use Rattle.gpl_play.specs.Links.{with_modules};
 ghost use Rattle.gpl_play.specs.Plays.{Drawables, AreOf, AreLeftBy, IsDraw, IsDrawOf, IsPlayOf, drawn_by};
 
 use crate::links::{link_pipes, valid_modules};
@@ -110,10 +113,11 @@ fn play_steps(
     for (recorder, step) in steps {
         let dynamic = &mut dynamics[usize::from(*recorder)];
         take_step(dynamic, step);
-        if let Step::Draw { pipe, call } = step {
-            play_draw(alloc, objects, number, *pipe, dynamic, call, left)?;
-            number += 1;
-        }
+        let Step::Draw { pipe, call } = step else {
+            continue;
+        };
+        play_draw(alloc, objects, number, *pipe, dynamic, call, left)?;
+        number += 1;
     }
     Ok(())
 }
@@ -139,7 +143,10 @@ fn play_draw(
         left.new.targets left.new.refused.items) }
 {
     match &objects.links[usize::from(pipe)] {
-        Ok(state) => draw_linked(alloc, objects, state, dynamic, call, &mut left.targets),
+        Ok(state) => {
+            draw_linked(alloc, objects, state, dynamic, call, &mut left.targets)?;
+            Ok(())
+        }
         Err(rule) => {
             left.refused.push((number, *rule))?;
             Ok(())
@@ -163,13 +170,21 @@ fn draw_linked(
         (drawn_by recorder pipe dynamic.now call.now) state.now) }
 {
     let vertex = &objects.modules[state.prerast.module as usize];
-    let fragment = match &state.fragment {
-        Some(part) => Some(&objects.modules[part.module as usize]),
-        None => None,
-    };
+    let fragment = fragment_module(objects.modules, state);
     let buffers = objects.buffers;
     draw_modules(
         alloc, vertex, fragment, state, dynamic, call, buffers, targets,
     )?;
     Ok(())
+}
+
+/// The fragment module of a state, where it has one.
+fn fragment_module<'a>(modules: &'a [Module], state: &State) -> Option<&'a Module>
+    requires { IfSome state.now.fragment (λ part. part.«module» < length modules.now) }
+    ensures { insts_of result ≡ fragment_insts (with_modules modules.now) state.now }
+{
+    match &state.fragment {
+        Some(part) => Some(&modules[part.module as usize]),
+        None => None,
+    }
 }
