@@ -59,7 +59,7 @@ refused_left trace front drawn targets refused number rule fails is left =
 
 -- ---- what it is made from
 
-middle : {A : Type 0} (P : A → Type 0) (front : List A) (x : A) (rest : List A) → All P (front ++ x ∷ rest) → P x
+pub middle : {A : Type 0} (P : A → Type 0) (front : List A) (x : A) (rest : List A) → All P (front ++ x ∷ rest) → P x
 middle P [] x rest h = All-head P x rest h
 middle P (y ∷ front) x rest h = middle P front x rest (All-tail P y (front ++ x ∷ rest) h)
 
