@@ -17,11 +17,14 @@ use Rattle.gpl_play.specs.Plays.{AreLeftBy}
 
 -- ---- what a rule says of the state, and a state of the rules
 
-refused_state : (libs : Libraries) (rule : Rule) → failed_rule libs false ≡ Some rule → state_if_linked libs ≡ None
-unfolding state_if_linked
-refused_state libs rule h = rw h refl
+abbrev pub unless_failed : Option Rule → Option State → Option State
+unless_failed failed made = elim failed [ Some rule ↦ None | None ↦ made ]
 
-no_rule : (failed : Option Rule) (state : State) (made : Option State) → (elim failed [ Some rule ↦ None | None ↦ made ]) ≡ Some state → failed ≡ None
+pub refused_state : (libs : Libraries) (rule : Rule) → failed_rule libs false ≡ Some rule → state_if_linked libs ≡ None
+unfolding state_if_linked
+refused_state libs rule h = ap (λ (failed : Option Rule). unless_failed failed (linked_state libs)) h
+
+no_rule : (failed : Option Rule) (state : State) (made : Option State) → unless_failed failed made ≡ Some state → failed ≡ None
 no_rule None state made h = refl
 no_rule (Some rule) state made h = cc
 
@@ -36,15 +39,19 @@ enumerate_more n [] x = ap (λ (k : ℕ). (k, x) ∷ []) (omega arith)
 enumerate_more n (y ∷ ys) x =
     ap (λ rest. (n, y) ∷ rest) (enumerate_more (n + 1) ys x ∙ ap (λ (k : ℕ). enumerate_from (n + 1) ys ++ (k, x) ∷ []) (omega arith))
 
+numbered_more : {X : Type 0} (xs : List X) (x : X) → enumerate_from 0 (xs ++ x ∷ []) ≡ enumerate_from 0 xs ++ (length xs, x) ∷ []
+numbered_more xs x =
+    enumerate_more 0 xs x ∙ ap (λ (k : ℕ). enumerate_from 0 xs ++ (k, x) ∷ []) {x = 0 + length xs} {y = length xs} (omega arith)
+
 -- the targets and the refused draws, with one draw more
 pub one_more : (trace : Trace) (front : List RecordedDraw) (drawn : RecordedDraw) (targets : Targets) (refused : List (ℕ × Rule)) → AreLeftBy trace front targets refused
     → AreLeftBy trace (front ++ drawn ∷ []) (after_draw trace targets drawn) (refused ++ filter_map (refusal trace) ((length front, drawn) ∷ []))
 one_more trace front drawn targets refused left = record {
-  targets = ap (λ (t : Targets). after_draw trace t drawn) left.targets ∙ sym (fold-append (after_draw trace) (first_targets trace) front (drawn ∷ []));
-  refused =
-      ap (λ (r : List (ℕ × Rule)). r ++ filter_map (refusal trace) ((length front, drawn) ∷ [])) left.refused
+  targets_are = ap (λ (t : Targets). after_draw trace t drawn) left.targets_are ∙ sym (fold-append (after_draw trace) (first_targets trace) front (drawn ∷ []));
+  refused_are =
+      ap (λ (r : List (ℕ × Rule)). r ++ filter_map (refusal trace) ((length front, drawn) ∷ [])) left.refused_are
       ∙ sym (filter_map-append (refusal trace) (enumerate_from 0 front) ((length front, drawn) ∷ []))
-      ∙ ap (filter_map (refusal trace)) (sym (enumerate_more 0 front drawn));
+      ∙ ap (filter_map (refusal trace)) (sym (numbered_more front drawn));
 }
 
 -- a refused draw leaves the targets

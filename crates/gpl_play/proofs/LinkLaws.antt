@@ -1,18 +1,22 @@
 -- The libraries of pipes, by the modules and the libraries of a trace alone.
-use Rattle.std.proofs.Common.{◌≡◌, ℕ, List, [], ◌∷◌, ◌++◌, refl, ap, sym, ◌∙◌, Option, None, Some}
+use Rattle.std.proofs.Common.{◌≡◌, ℕ, ◌+◌, ◌<◌, List, [], ◌∷◌, ◌++◌, take, refl, ap, sym, ◌∙◌, append-nil, length, Option, None, Some}
 use Rattle.std.proofs.Math.Path.{fun_ext}
-use Rattle.std.proofs.lemmas.List.Elements.{filter_map-append}
-use Rattle.std.specs.List.{filter_map}
+use Rattle.std.proofs.lemmas.List.{take_more}
+use Rattle.std.proofs.lemmas.List.Elements.{All-nil, All-cons, All-append, filter_map-append}
+use Rattle.std.specs.List.{filter_map, cons_option}
 use Rattle.std.specs.Option.{option_map_or}
-use Rattle.std.specs.Prelude.{slice_get}
+use Rattle.std.specs.Prelude.{slice_get, slice_index, slice_index_or}
 use Rattle.spirv_model.specs.declared.module.Words.{Words}
+use Rattle.state_model.specs.Lawful.{IsVertexPart, IsPrerastPart, IsFragmentPart, IsOutputPart}
 use Rattle.state_model.specs.Link.{Libraries, PrerastLibrary, FragmentLibrary}
 use Rattle.check_model.specs.Interfaces.{inputs_of, outputs_of}
 use Rattle.trace_model.specs.declared.whole.Library.{Library}
 use Rattle.trace_model.specs.declared.whole.Library.TheVariants as library
 use Rattle.trace_model.specs.declared.whole.Trace.{Trace}
-use Rattle.trace_model.specs.Pipes.{vertex_in, output_in, prerast_in, fragment_in, libraries_by_subset}
-use Rattle.gpl_play.specs.Links.{with_modules, libraries_given, with_library}
+use Rattle.trace_model.specs.LawfulPlay.{IsLibrary}
+use Rattle.trace_model.specs.Pipes.{vertex_in, output_in, prerast_in, fragment_in, libraries_by_subset, pipe_libraries}
+use Rattle.link_rules.specs.Parts.{HoldsLawfulParts}
+use Rattle.gpl_play.specs.Links.{with_modules, libraries_given, with_library, libraries_at, HasObjects}
 
 -- ---- the modules of a trace are all that counts
 
@@ -32,7 +36,7 @@ fragment_same trace modules h (library.Vertex part) = refl
 fragment_same trace modules h (library.Prerast part) = refl
 fragment_same trace modules h (library.Output part) = refl
 
-with_shaders : List Library → (Library → Option PrerastLibrary) → (Library → Option FragmentLibrary) → Libraries
+abbrev with_shaders : List Library → (Library → Option PrerastLibrary) → (Library → Option FragmentLibrary) → Libraries
 with_shaders given prerast fragment = record {
   vertex = filter_map vertex_in given;
   prerast = filter_map prerast given;
@@ -51,3 +55,86 @@ pub one_library_more : (modules : List Words) (given : List Library) (more : Lib
 one_library_more modules given more =
     rw (filter_map-append vertex_in given (more ∷ []), filter_map-append (prerast_in (with_modules modules)) given (more ∷ []),
     filter_map-append (fragment_in (with_modules modules)) given (more ∷ []), filter_map-append output_in given (more ∷ [])) refl
+
+-- ---- lawful parts
+
+one_lawful : (modules : List Words) (library : Library) → IsLibrary modules library → HoldsLawfulParts (libraries_given modules (library ∷ []))
+one_lawful modules (library.Vertex part) is = record {
+  vertex = All-cons IsVertexPart part [] is (All-nil IsVertexPart);
+  prerast = All-nil (λ (p : PrerastLibrary). IsPrerastPart p.part);
+  fragment = All-nil (λ (f : FragmentLibrary). IsFragmentPart f.part);
+  output = All-nil IsOutputPart;
+}
+one_lawful modules (library.Prerast part) is = record {
+  vertex = All-nil IsVertexPart;
+  prerast = All-cons (λ (p : PrerastLibrary). IsPrerastPart p.part) _ [] is.0 (All-nil (λ (p : PrerastLibrary). IsPrerastPart p.part));
+  fragment = All-nil (λ (f : FragmentLibrary). IsFragmentPart f.part);
+  output = All-nil IsOutputPart;
+}
+one_lawful modules (library.Fragment part) is = record {
+  vertex = All-nil IsVertexPart;
+  prerast = All-nil (λ (p : PrerastLibrary). IsPrerastPart p.part);
+  fragment = All-cons (λ (f : FragmentLibrary). IsFragmentPart f.part) _ [] is.0 (All-nil (λ (f : FragmentLibrary). IsFragmentPart f.part));
+  output = All-nil IsOutputPart;
+}
+one_lawful modules (library.Output part) is = record {
+  vertex = All-nil IsVertexPart;
+  prerast = All-nil (λ (p : PrerastLibrary). IsPrerastPart p.part);
+  fragment = All-nil (λ (f : FragmentLibrary). IsFragmentPart f.part);
+  output = All-cons IsOutputPart part [] is (All-nil IsOutputPart);
+}
+
+pub none_lawful : (modules : List Words) → HoldsLawfulParts (libraries_given modules [])
+none_lawful modules = record {
+  vertex = All-nil IsVertexPart;
+  prerast = All-nil (λ (p : PrerastLibrary). IsPrerastPart p.part);
+  fragment = All-nil (λ (f : FragmentLibrary). IsFragmentPart f.part);
+  output = All-nil IsOutputPart;
+}
+
+pub lawful_more : (modules : List Words) (libs : Libraries) (library : Library) → IsLibrary modules library → HoldsLawfulParts libs → HoldsLawfulParts (with_library modules libs library)
+lawful_more modules libs library is h =
+    let one = one_lawful modules library is in
+    let more = libraries_given modules (library ∷ []) in
+    record {
+      vertex = All-append IsVertexPart libs.vertex more.vertex h.vertex one.vertex;
+      prerast = All-append (λ (p : PrerastLibrary). IsPrerastPart p.part) libs.prerast more.prerast h.prerast one.prerast;
+      fragment = All-append (λ (f : FragmentLibrary). IsFragmentPart f.part) libs.fragment more.fragment h.fragment one.fragment;
+      output = All-append IsOutputPart libs.output more.output h.output one.output;
+    }
+
+-- ---- the libraries of a pipe, one after the other
+
+chosen_more : (libs : List Library) (pipe : List ℕ) (i : ℕ) → i < length pipe
+    → filter_map (slice_get libs) (take (i + 1) pipe) ≡ filter_map (slice_get libs) (take i pipe) ++ cons_option (slice_get libs (slice_index pipe i)) []
+chosen_more libs pipe i within =
+    ap (filter_map (slice_get libs)) (take_more pipe i 0 within) ∙ filter_map-append (slice_get libs) (take i pipe) (slice_index pipe i ∷ [])
+
+-- where there is a library with the number
+pub given_more : (modules : List Words) (libs : List Library) (pipe : List ℕ) (i : ℕ) (made : Libraries) (library : Library) → i < length pipe → slice_get libs (slice_index pipe i) ≡ Some library
+    → made ≡ libraries_given modules (filter_map (slice_get libs) (take i pipe))
+    → with_library modules made library ≡ libraries_given modules (filter_map (slice_get libs) (take (i + 1) pipe))
+given_more modules libs pipe i made library within there is =
+    ap (λ (m : Libraries). with_library modules m library) is
+    ∙ sym (one_library_more modules (filter_map (slice_get libs) (take i pipe)) library)
+    ∙ ap (λ (o : Option Library). libraries_given modules (filter_map (slice_get libs) (take i pipe) ++ cons_option o [])) (sym there)
+    ∙ ap (libraries_given modules) (sym (chosen_more libs pipe i within))
+
+-- where there is none
+pub given_same : (modules : List Words) (libs : List Library) (pipe : List ℕ) (i : ℕ) (made : Libraries) → i < length pipe → slice_get libs (slice_index pipe i) ≡ None
+    → made ≡ libraries_given modules (filter_map (slice_get libs) (take i pipe)) → made ≡ libraries_given modules (filter_map (slice_get libs) (take (i + 1) pipe))
+given_same modules libs pipe i made within none is =
+    is
+    ∙ ap (libraries_given modules) (sym (append-nil (filter_map (slice_get libs) (take i pipe))))
+    ∙ ap (λ (o : Option Library). libraries_given modules (filter_map (slice_get libs) (take i pipe) ++ cons_option o [])) (sym none)
+    ∙ ap (libraries_given modules) (sym (chosen_more libs pipe i within))
+
+-- ---- a pipe, by its number
+
+pub libraries_are : (trace : Trace) (modules : List Words) (libs : List Library) (pipes : List (List ℕ)) → HasObjects trace modules libs pipes
+    → (pipe : ℕ) → pipe_libraries trace pipe ≡ libraries_at modules libs pipes pipe
+unfolding pipe_libraries
+libraries_are trace modules libs pipes h pipe =
+    same_libraries trace modules (filter_map (slice_get trace.libs) (slice_index_or trace.pipes pipe [])) h.modules_are
+    ∙ ap (λ (ls : List Library). libraries_given modules (filter_map (slice_get ls) (slice_index_or trace.pipes pipe []))) h.libs_are
+    ∙ ap (λ (ps : List (List ℕ)). libraries_given modules (filter_map (slice_get libs) (slice_index_or ps pipe []))) h.pipes_are

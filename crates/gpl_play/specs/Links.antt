@@ -1,5 +1,6 @@
 -- What a trace's pipes link to.
-use Rattle.std.specs.Prelude.{◌≡◌, ℕ, List, [], ◌∷◌, ◌++◌, length, slice_get, false, Some, Result, Ok, Err}
+use Rattle.std.specs.Prelude.{◌≡◌, ℕ, List, [], ◌∷◌, ◌++◌, length, slice_get, slice_index_or, false, Some, Result, Ok, Err}
+use Rattle.std.specs.List.{filter_map}
 use Rattle.spirv_model.specs.declared.module.Words.{Words}
 use Rattle.state_model.specs.declared.parts.State.{State}
 use Rattle.state_model.specs.declared.rule.Rule.{Rule}
@@ -27,11 +28,15 @@ with_library modules libs library = let one = libraries_given modules (library �
   output = libs.output ++ one.output;
 }
 
+-- the libraries of a pipe, by its number
+abbrev pub libraries_at : List Words → List Library → List (List ℕ) → ℕ → Libraries
+libraries_at modules libs pipes pipe = libraries_given modules (filter_map (slice_get libs) (slice_index_or pipes pipe []))
+
 -- the trace has these objects
 pub record HasObjects (trace : Trace) (modules : List Words) (libs : List Library) (pipes : List (List ℕ)) : Type 0 where
-  pub modules : trace.modules ≡ modules
-  pub libs : trace.libs ≡ libs
-  pub pipes : trace.pipes ≡ pipes
+  pub modules_are : trace.modules ≡ modules
+  pub libs_are : trace.libs ≡ libs
+  pub pipes_are : trace.pipes ≡ pipes
 
 -- libraries link to their state, or a rule fails
 abbrev pub IsLinkOf : Libraries → Result State Rule → Type 0
@@ -42,3 +47,8 @@ IsLinkOf libs (Err rule) = failed_rule libs false ≡ Some rule
 pub record AreLinks (trace : Trace) (links : List (Result State Rule)) : Type 0 where
   pub count : length links ≡ length trace.pipes
   pub each : (pipe : ℕ) (link : Result State Rule) → slice_get links pipe ≡ Some link → IsLinkOf (pipe_libraries trace pipe) link
+
+-- what each of the first pipes links to, by these objects
+pub record AreLinksUntil (modules : List Words) (libs : List Library) (pipes : List (List ℕ)) (n : ℕ) (links : List (Result State Rule)) : Type 0 where
+  pub count : length links ≡ n
+  pub each : (pipe : ℕ) (link : Result State Rule) → slice_get links pipe ≡ Some link → IsLinkOf (libraries_at modules libs pipes pipe) link

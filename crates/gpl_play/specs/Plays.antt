@@ -29,8 +29,8 @@ pub record AreOf (trace : Trace) (objects : Drawables) : Type 0 where
 
 -- the targets and the refused draws after these first draws of a trace
 pub record AreLeftBy (trace : Trace) (front : List RecordedDraw) (targets : Targets) (refused : List (ℕ × Rule)) : Type 0 where
-  pub targets : targets ≡ fold (after_draw trace) (first_targets trace) front
-  pub refused : refused ≡ filter_map (refusal trace) (enumerate_from 0 front)
+  pub targets_are : targets ≡ fold (after_draw trace) (first_targets trace) front
+  pub refused_are : refused ≡ filter_map (refusal trace) (enumerate_from 0 front)
 
 -- a recorder's draw
 abbrev pub drawn_by : (recorder pipe : ℕ) → Dynamic → DrawCall → RecordedDraw
@@ -52,7 +52,7 @@ pub record IsPlayOf (objects : Drawables) (steps : List (ℕ × Step)) (targets 
   pub trace : Trace
   pub lawful : LawfulTrace trace
   pub of : AreOf trace objects
-  pub steps : trace.steps ≡ steps
+  pub steps_are : trace.steps ≡ steps
   pub left : AreLeftBy trace [] targets refused
 
 -- a draw with this state, whose modules are modules of the trace

@@ -1,13 +1,16 @@
 //! The text of a trace that is played.
-ghost use Rattle.std.specs.Prelude.{◌≡◌, ℕ, List, [], ◌∷◌, ◌++◌, length, map, IfOk, OnOk};
+ghost use Rattle.std.specs.Prelude.{◌≡◌, ℕ, ◌<◌, List, [], ◌∷◌, ◌++◌, length, map, slice_get, Some, IfSome, IfOk, OnOk};
+ghost use Rattle.int_device.specs.Modules.{insts_of};
 ghost use Rattle.trace_model.specs.LawfulPlay.{LawfulTrace};
+ghost use Rattle.trace_model.specs.Pipes.{fragment_insts};
 ghost use Rattle.trace_model.specs.PlayText as spec;
 ghost use Rattle.trace_model.specs.Playing.{RecordedDraw, after_linked, draws_of};
 ghost use Rattle.trace_model.specs.declared.whole.Trace as trace;
+ghost use Rattle.gpl_play.specs.Links.{with_modules};
 ghost use Rattle.gpl_play.specs.Plays.{Drawables, AreOf, AreLeftBy, IsDraw, IsDrawOf, IsPlayOf, drawn_by};
 
 use crate::links::{link_pipes, valid_modules};
-use crate::recorder::{first_dynamic, take_step};
+use crate::recorder::{dynamic_of, first_dynamic, take_line};
 use draw_model::framebuffer::Target;
 use draw_model::{DrawCall, Dynamic, Targets};
 use int_device::whole_draw::draw_modules;
@@ -108,12 +111,13 @@ fn play_steps(
     ];
     let mut number = 0;
     for (recorder, step) in steps {
-        let dynamic = &mut dynamics[usize::from(*recorder)];
-        take_step(dynamic, step);
-        if let Step::Draw { pipe, call } = step {
-            play_draw(alloc, objects, number, *pipe, dynamic, call, left)?;
-            number += 1;
-        }
+        take_line(&mut dynamics, *recorder, step);
+        let Step::Draw { pipe, call } = step else {
+            continue;
+        };
+        let dynamic = dynamic_of(&dynamics, *recorder);
+        play_draw(alloc, objects, number, *pipe, dynamic, call, left)?;
+        number += 1;
     }
     Ok(())
 }
@@ -138,8 +142,11 @@ fn play_draw(
         (front ++ drawn_by recorder pipe dynamic.now call.now ∷ [])
         left.new.targets left.new.refused.items) }
 {
-    match &objects.links[usize::from(pipe)] {
-        Ok(state) => draw_linked(alloc, objects, state, dynamic, call, &mut left.targets),
+    match link_at(objects.links, pipe) {
+        Ok(state) => {
+            draw_linked(alloc, objects, state, dynamic, call, &mut left.targets)?;
+            Ok(())
+        }
         Err(rule) => {
             left.refused.push((number, *rule))?;
             Ok(())
@@ -162,14 +169,38 @@ fn draw_linked(
         → OnOk result (targets.new ≡ after_linked trace targets.old
         (drawn_by recorder pipe dynamic.now call.now) state.now) }
 {
-    let vertex = &objects.modules[state.prerast.module as usize];
-    let fragment = match &state.fragment {
-        Some(part) => Some(&objects.modules[part.module as usize]),
-        None => None,
-    };
+    let vertex = module_at(objects.modules, state.prerast.module);
+    let fragment = fragment_module(objects.modules, state);
     let buffers = objects.buffers;
     draw_modules(
         alloc, vertex, fragment, state, dynamic, call, buffers, targets,
     )?;
     Ok(())
+}
+
+/// The fragment module of a state, where it has one.
+fn fragment_module<'a>(modules: &'a [Module], state: &State) -> Option<&'a Module>
+    requires { IfSome state.now.fragment (λ part. part.«module» < length modules.now) }
+    ensures { insts_of result ≡ fragment_insts (with_modules modules.now) state.now }
+{
+    match &state.fragment {
+        Some(part) => Some(module_at(modules, part.module)),
+        None => None,
+    }
+}
+
+/// The module with a number.
+fn module_at(modules: &[Module], number: u32) -> &Module
+    requires { number < length modules.now }
+    ensures { slice_get modules.now number ≡ Some result.now }
+{
+    &modules[number as usize]
+}
+
+/// What a pipe links to.
+fn link_at(links: &[Result<State, Rule>], pipe: u16) -> &Result<State, Rule>
+    requires { pipe < length links.now }
+    ensures { slice_get links.now pipe ≡ Some result.now }
+{
+    &links[usize::from(pipe)]
 }

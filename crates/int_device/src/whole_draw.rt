@@ -62,10 +62,10 @@ pub fn draw_modules(
 ) -> Result<u64, AllocError>
     requires { LawfulDraw vertex.now.insts (insts_of fragment)
         state.now dynamic.now call.now buffers.now targets.old }
-    ensures image { OnOk result (targets.new ≡ image vertex.now.insts (insts_of fragment)
-        state.now dynamic.now call.now buffers.now targets.old) }
-    ensures work { IfOk result (λ work. work ≡ effort vertex.now.insts (insts_of fragment)
-        state.now dynamic.now call.now buffers.now) }
+    ensures image { OnOk result (targets.new ≡ image vertex.now.insts
+        (insts_of fragment.entry) state.now dynamic.now call.now buffers.now targets.old) }
+    ensures work { IfOk result (λ work. work ≡ effort vertex.now.insts
+        (insts_of fragment.entry) state.now dynamic.now call.now buffers.now) }
     ensures err { OnErr result (targets.new ≡ targets.old) }
 {
     let mut vertices = Vertices::new(alloc, vertex, state, dynamic, call, buffers)?;
@@ -91,7 +91,7 @@ fn shading_of<'a>(
     requires scissor_y { let sides = dynamic.now.scissor in
         IsSide (slice_index sides 1) (slice_index sides 3) }
     ensures { IfOk result
-        (λ s. s ≡ shade_of (insts_of fragment) state.now dynamic.now buffers.now) }
+        (λ s. s ≡ shade_of (insts_of fragment.entry) state.now dynamic.now buffers.now) }
 {
     let Some(shader) = fragment else {
         return Ok(None);
