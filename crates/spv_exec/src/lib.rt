@@ -25,8 +25,3 @@ pub use prepared::{Prepared, run_stage};
 pub use spirv_model::{Inst, Items};
 pub use stage_model::{Ended, Kind};
 pub use std::alloc::AllocError as Memory;
-
-#[cfg(test)]
-mod module_frame_tests;
-#[cfg(test)]
-mod prepared_tests;
