@@ -9,7 +9,9 @@ void main() {
     else if (ground.x < 8) paint = ivec3(206, 188, 132);  // sand
     else if (ground.x < 60) paint = ivec3(98, 140, 64);  // grass
     else if (ground.x < 104) paint = ivec3(122, 108, 96);  // rock
-    paint = paint * ground.y / 255;
+    int light = ground.x < 1 ? 230 + ground.x / 2 : ground.y;  // water is flat, and darker where it is deep
+    light = light < 120 ? 120 : light;
+    paint = paint * light / 255;
 
     // Haze: the farther, the more of the sky's colour.
     int haze = (FragCoord.z - 640) / 16;

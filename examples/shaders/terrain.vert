@@ -37,7 +37,7 @@ void main() {
     int away = 640 + 64 * z;
     int side = 64 * x - 1024;
     Position.x = 64 * 256 + side * view.focus / away;
-    Position.y = view.horizon + (view.eye - (height < 0 ? 0 : height)) * view.focus / away;
+    Position.y = view.horizon + (view.eye - (height < 0 ? 0 : 3 * height)) * view.focus / away;
     Position.z = away;
     Position.w = 1;
 
