@@ -8,6 +8,7 @@ mod interpreter;
 use interpreter::{Ended, Given, Module, Prepared, read};
 
 const ROUNDS: u32 = 5;
+const MAX_SIDE: u32 = 256;
 const GUARD_BAND: i64 = 1 << 20;
 const XOR: u8 = 6;
 
@@ -18,7 +19,7 @@ struct Scene {
     samples: usize,
     mask: u32,
     compare: Option<u8>,
-    /// Width and height of the scissor, which wanders where it is smaller than the target.
+    /// Width and height of the scissor, which wanders where it is smaller than a target may be.
     scissor: u32,
     corners: Vec<u32>,
     vertices: u32,
@@ -166,8 +167,8 @@ fn round(scene: &Scene, vertex: &Module, fragment: &Module, uniform: &[u32], tar
     for number in 0..scene.draws {
         chance = chance.wrapping_mul(6_364_136_223_846_793_005).wrapping_add(1_442_695_040_888_963_407);
         let place = chance >> 33;
-        let wanders = scene.scissor < scene.side;
-        let (x, y) = if wanders { ((place / 8 % 32) as u32, (place / 256 % 32) as u32) } else { (0, 0) };
+        let free = MAX_SIDE - scene.scissor;
+        let (x, y) = (((place / 8 % 32) as u32).min(free), ((place / 256 % 32) as u32).min(free));
         let mut draw = Draw {
             scene,
             scissor: [x, y, scene.scissor, scene.scissor],
