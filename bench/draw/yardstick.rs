@@ -4,6 +4,7 @@ use std::fs;
 use std::time::Instant;
 
 #[path = "../exec/interpreter.rs"]
+#[allow(dead_code)]
 mod interpreter;
 use interpreter::{Ended, Given, Module, Prepared, read};
 
@@ -37,16 +38,16 @@ struct Draw<'a> {
     vertex: Prepared<'a>,
     fragment: Prepared<'a>,
     uniform: &'a [u32],
-    work: u64,
     pixels: u64,
 }
 
 /// Counts of a round.
 #[derive(Default)]
 struct Counts {
+    nanos: u128,
     vertices: u64,
     pixels: u64,
-    work: u64,
+    sum: u64,
 }
 
 fn passes(compare: u8, new: i32, old: i32) -> bool {
@@ -87,14 +88,12 @@ impl Draw<'_> {
             given.slots[0][k] = self.scene.corners.get(4 * index as usize + k).copied().unwrap_or(0);
         }
         let ended = self.vertex.run(&given, &[]);
-        self.work += ended.work;
         ended
     }
 
     fn shade(&mut self, x: u32, y: u32, first: &Ended, front: bool, targets: &mut Targets) {
         let given = Given { slots: first.slots, frag_coord: [x, y, first.position[2], 0], front, ..Given::default() };
         let ended = self.fragment.run(&given, self.uniform);
-        self.work += ended.work;
         self.pixels += 1;
         if ended.kind != 0 || x >= self.scene.side || y >= self.scene.side {
             return;
@@ -161,45 +160,41 @@ impl Draw<'_> {
     }
 }
 
-fn round(scene: &Scene, vertex: &Module, fragment: &Module, uniform: &[u32], targets: &mut Targets) -> Counts {
+/// A round of the scene's draws, each on fresh targets.
+fn round(scene: &Scene, vertex: &Module, fragment: &Module) -> Counts {
     let mut counts = Counts::default();
     let mut chance = 1u64;
+    let size = (scene.side * scene.side) as usize * scene.samples;
     for number in 0..scene.draws {
         chance = chance.wrapping_mul(6_364_136_223_846_793_005).wrapping_add(1_442_695_040_888_963_407);
         let place = chance >> 33;
         let free = MAX_SIDE - scene.scissor;
         let (x, y) = (((place / 8 % 32) as u32).min(free), ((place / 256 % 32) as u32).min(free));
+        let mut targets = Targets { colour: vec![0; size], depth: vec![i32::MAX as u32; size] };
+        let start = Instant::now();
         let mut draw = Draw {
             scene,
             scissor: [x, y, scene.scissor, scene.scissor],
             vertex: Prepared::new(vertex, &[]),
             fragment: Prepared::new(fragment, &[(0, number / 4 % 6 + 1)]),
-            uniform,
-            work: 0,
+            uniform: &[100],
             pixels: 0,
         };
-        draw.run(targets);
+        draw.run(&mut targets);
+        counts.nanos += start.elapsed().as_nanos();
         counts.vertices += u64::from(scene.vertices);
         counts.pixels += draw.pixels;
-        counts.work += draw.work;
+        counts.sum = targets.colour.iter().fold(counts.sum, |sum, word| sum.wrapping_mul(31).wrapping_add(u64::from(*word)));
     }
     counts
 }
 
 fn time_scene(scene: &Scene) {
     let (vertex, fragment) = (read(&words("vertex")), read(&words("fragment")));
-    let size = (scene.side * scene.side) as usize * scene.samples;
-    let mut targets = Targets { colour: vec![0; size], depth: vec![i32::MAX as u32; size] };
-    let mut best = u128::MAX;
-    let mut counts = Counts::default();
-    for _ in 0..ROUNDS {
-        let start = Instant::now();
-        counts = round(scene, &vertex, &fragment, &[100], &mut targets);
-        best = best.min(start.elapsed().as_nanos());
-    }
-    let sum = targets.colour.iter().fold(counts.work, |sum, word| sum.wrapping_mul(31).wrapping_add(u64::from(*word)));
-    println!("{}, {} vertices\t{best}\t{}\t{sum}", scene.name, counts.vertices, counts.vertices);
-    println!("{}, {} pixels\t{best}\t{}\t{sum}", scene.name, counts.pixels, counts.pixels);
+    let best = (0..ROUNDS).map(|_| round(scene, &vertex, &fragment)).min_by_key(|counts| counts.nanos).unwrap_or_default();
+    let Counts { nanos, vertices, pixels, sum } = best;
+    println!("{}, {vertices} vertices\t{nanos}\t{vertices}\t{sum}", scene.name);
+    println!("{}, {pixels} pixels\t{nanos}\t{pixels}\t{sum}", scene.name);
 }
 
 fn words(name: &str) -> Vec<u32> {
