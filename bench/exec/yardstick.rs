@@ -1,366 +1,39 @@
-//! The yardstick of main.rt.txt: an interpreter of the same shape in plain Rust. The instructions are kept as they were read; each
-//! value has its place in one frame of words, each variable in one memory, and an id is looked up in a table by id.
+//! The yardstick of main.rt.txt: the interpreter of interpreter.rs.
 
 use std::fs;
 use std::time::Instant;
 
+mod interpreter;
+use interpreter::{Given, Prepared, read};
+
 const RUNS: u32 = 20;
 const ROUNDS: u32 = 5;
 const NAMES: [&str; 6] = ["variable_loop", "phi_loop", "swapping_phis", "straight", "nested_selections", "traffic"];
-const OUTSIDE: u32 = u32::MAX;
-const BACK_EDGES: u32 = 4_096;
-
-struct Inst {
-    op: u16,
-    words: Vec<u32>,
-}
-
-#[derive(Clone)]
-enum Shape {
-    None,
-    Word,
-    Vector(u32),
-    Array(u32, u32),
-    Struct(Vec<u32>, Vec<u32>),
-    Pointer(u32),
-}
-
-struct Module {
-    insts: Vec<Inst>,
-    bound: usize,
-}
-
-fn read(bytes: &[u8]) -> Module {
-    let words: Vec<u32> = bytes.chunks_exact(4).map(|b| u32::from_le_bytes([b[0], b[1], b[2], b[3]])).collect();
-    let mut insts = Vec::new();
-    let mut at = 5;
-    while at < words.len() {
-        let count = (words[at] >> 16) as usize;
-        insts.push(Inst { op: words[at] as u16, words: words[at + 1..at + count].to_vec() });
-        at += count;
-    }
-    Module { insts, bound: words[3] as usize }
-}
-
-/// The place of the result's id among an instruction's words.
-fn result_place(op: u16) -> Option<usize> {
-    match op {
-        19..=33 => Some(0),
-        248 => Some(0),
-        43..=52 | 54 | 59 | 61 | 65 | 79..=82 | 124 | 126..=205 | 245 | 1 => Some(1),
-        _ => None,
-    }
-}
-
-struct Prepared<'m> {
-    module: &'m Module,
-    defined: Vec<Option<u32>>,
-    frame_places: Vec<u32>,
-    memory_places: Vec<u32>,
-    shapes: Vec<Shape>,
-    types: Vec<u32>,
-    constants: Vec<u32>,
-    uniforms: Vec<(u32, u32, Vec<u32>)>,
-    output: Option<u32>,
-    first: usize,
-    frame: Vec<u32>,
-    incoming: Vec<u32>,
-    memory: Vec<u32>,
-}
-
-struct Ended {
-    kind: u8,
-    left: u32,
-    work: u64,
-}
-
-fn size(shapes: &[Shape], id: u32) -> u32 {
-    match &shapes[id as usize] {
-        Shape::None => 0,
-        Shape::Word => 1,
-        Shape::Vector(count) => *count,
-        Shape::Array(element, count) => size(shapes, *element) * count,
-        Shape::Struct(members, _) => members.iter().map(|member| size(shapes, *member)).sum(),
-        Shape::Pointer(_) => 1,
-    }
-}
-
-impl<'m> Prepared<'m> {
-    fn new(module: &'m Module) -> Prepared<'m> {
-        let (insts, bound) = (&module.insts, module.bound);
-        let mut defined = vec![None; bound];
-        let mut shapes = vec![Shape::None; bound];
-        let mut types = vec![0; bound];
-        let mut frame_places = vec![0];
-        let mut memory_places = vec![0];
-        for (place, inst) in insts.iter().enumerate() {
-            let words = &inst.words;
-            match inst.op {
-                20 | 21 => shapes[words[0] as usize] = Shape::Word,
-                23 => shapes[words[0] as usize] = Shape::Vector(words[2]),
-                28 => {
-                    let length = insts[defined[words[2] as usize].unwrap() as usize].words[2];
-                    shapes[words[0] as usize] = Shape::Array(words[1], length);
-                }
-                30 => {
-                    let mut starts = Vec::new();
-                    let mut start = 0;
-                    for member in &words[1..] {
-                        starts.push(start);
-                        start += size(&shapes, *member);
-                    }
-                    shapes[words[0] as usize] = Shape::Struct(words[1..].to_vec(), starts);
-                }
-                32 => shapes[words[0] as usize] = Shape::Pointer(words[2]),
-                _ => {}
-            }
-            let mut frame = 0;
-            let mut memory = 0;
-            if let Some(at) = result_place(inst.op) {
-                defined[words[at] as usize] = Some(place as u32);
-                if at == 1 {
-                    types[words[1] as usize] = words[0];
-                    frame = size(&shapes, words[0]);
-                }
-                if inst.op == 59 {
-                    if let Shape::Pointer(held) = shapes[words[0] as usize] {
-                        memory = size(&shapes, held);
-                    }
-                }
-            }
-            frame_places.push(frame_places[place] + frame);
-            memory_places.push(memory_places[place] + memory);
-        }
-        let first = insts.iter().position(|inst| inst.op == 248).unwrap();
-        let length = frame_places[insts.len()] as usize;
-        let memory = memory_places[insts.len()] as usize;
-        let mut constants = vec![0; length];
-        let mut uniforms = Vec::new();
-        let mut output = None;
-        for (place, inst) in insts.iter().take(first).enumerate() {
-            match inst.op {
-                43 => constants[frame_places[place] as usize] = inst.words[2],
-                59 => {
-                    constants[frame_places[place] as usize] = memory_places[place];
-                    let words = memory_places[place + 1] - memory_places[place];
-                    if inst.words[2] == 2 {
-                        uniforms.push((memory_places[place], words, (0..words).map(|k| 4 * k).collect()));
-                    } else if inst.words[2] == 3 {
-                        output = Some(memory_places[place]);
-                    }
-                }
-                _ => {}
-            }
-        }
-        Prepared {
-            module,
-            defined,
-            frame_places,
-            memory_places,
-            shapes,
-            types,
-            constants,
-            uniforms,
-            output,
-            first,
-            frame: vec![0; length],
-            incoming: vec![0; length],
-            memory: vec![0; memory],
-        }
-    }
-
-    fn place(&self, id: u32) -> usize {
-        self.frame_places[self.defined[id as usize].unwrap_or(0) as usize] as usize
-    }
-
-    fn word(&self, id: u32) -> u32 {
-        self.frame[self.place(id)]
-    }
-
-    fn words_of(&self, place: usize) -> usize {
-        (self.frame_places[place + 1] - self.frame_places[place]) as usize
-    }
-
-    fn take_values(&mut self, mut place: usize, before: u32) {
-        while self.module.insts[place].op == 245 {
-            let words = &self.module.insts[place].words;
-            for pair in words[2..].chunks_exact(2) {
-                if pair[1] == before {
-                    let (from, to, count) = (self.place(pair[0]), self.frame_places[place] as usize, self.words_of(place));
-                    for k in 0..count {
-                        self.incoming[to + k] = self.frame[from + k];
-                    }
-                    break;
-                }
-            }
-            place += 1;
-        }
-    }
-
-    fn chain(&self, words: &[u32]) -> u32 {
-        let mut at = self.word(words[2]);
-        let Shape::Pointer(mut held) = self.shapes[self.types[words[2] as usize] as usize] else { return OUTSIDE };
-        if at == OUTSIDE {
-            return OUTSIDE;
-        }
-        for index in &words[3..] {
-            let index = self.word(*index);
-            match &self.shapes[held as usize] {
-                Shape::Vector(count) if index < *count => at += index,
-                Shape::Array(element, count) if index < *count => {
-                    at += index * size(&self.shapes, *element);
-                    held = *element;
-                }
-                Shape::Struct(members, starts) if (index as usize) < members.len() => {
-                    at += starts[index as usize];
-                    held = members[index as usize];
-                }
-                _ => return OUTSIDE,
-            }
-        }
-        at
-    }
-
-    fn binary(op: u16, a: u32, b: u32) -> u32 {
-        match op {
-            128 => a.wrapping_add(b),
-            130 => a.wrapping_sub(b),
-            132 => a.wrapping_mul(b),
-            134 => a.checked_div(b).unwrap_or(0),
-            137 => a.checked_rem(b).unwrap_or(0),
-            170 => (a == b) as u32,
-            171 => (a != b) as u32,
-            172 => (a > b) as u32,
-            173 => ((a as i32) > (b as i32)) as u32,
-            174 => (a >= b) as u32,
-            175 => ((a as i32) >= (b as i32)) as u32,
-            176 => (a < b) as u32,
-            177 => ((a as i32) < (b as i32)) as u32,
-            178 => (a <= b) as u32,
-            179 => ((a as i32) <= (b as i32)) as u32,
-            194 => a.checked_shr(b).unwrap_or(0),
-            195 => ((a as i32) >> b.min(31)) as u32,
-            196 => a.checked_shl(b).unwrap_or(0),
-            197 => a | b,
-            198 => a ^ b,
-            199 => a & b,
-            _ => 0,
-        }
-    }
-
-    fn run(&mut self, buffers: &[Vec<u32>]) -> Ended {
-        self.frame.copy_from_slice(&self.constants);
-        self.memory.fill(0);
-        for (place, words, offsets) in &self.uniforms {
-            for k in 0..*words as usize {
-                let at = (offsets[k] / 4) as usize;
-                self.memory[*place as usize + k] = buffers.first().and_then(|b| b.get(at)).copied().unwrap_or(0);
-            }
-        }
-        let module = self.module;
-        let (mut place, mut label, mut before, mut back_edges, mut work) = (self.first, 0, 0, 0, 0);
-        let kind = loop {
-            let inst = &module.insts[place];
-            let words = &inst.words;
-            work += 1;
-            let to = match inst.op {
-                248 => {
-                    before = label;
-                    label = words[0];
-                    self.take_values(place + 1, before);
-                    None
-                }
-                245 => {
-                    let at = self.frame_places[place] as usize;
-                    for k in 0..self.words_of(place) {
-                        self.frame[at + k] = self.incoming[at + k];
-                    }
-                    None
-                }
-                59 => {
-                    self.frame[self.frame_places[place] as usize] = self.memory_places[place];
-                    None
-                }
-                246 | 247 => None,
-                62 => {
-                    let (to, from) = (self.word(words[0]), self.place(words[1]));
-                    let count = self.words_of(self.defined[words[1] as usize].unwrap_or(0) as usize);
-                    if to != OUTSIDE {
-                        for k in 0..count {
-                            self.memory[to as usize + k] = self.frame[from + k];
-                        }
-                    }
-                    None
-                }
-                61 => {
-                    let (from, to) = (self.word(words[2]), self.frame_places[place] as usize);
-                    for k in 0..self.words_of(place) {
-                        self.frame[to + k] = if from == OUTSIDE { 0 } else { self.memory[from as usize + k] };
-                    }
-                    None
-                }
-                65 => {
-                    self.frame[self.frame_places[place] as usize] = self.chain(words);
-                    None
-                }
-                249 => Some(words[0]),
-                250 => Some(if self.word(words[0]) != 0 { words[1] } else { words[2] }),
-                251 => {
-                    let selector = self.word(words[0]);
-                    Some(words[2..].chunks_exact(2).find(|case| case[0] == selector).map_or(words[1], |case| case[1]))
-                }
-                253 | 255 => break 0,
-                252 => break 1,
-                op => {
-                    let to = self.frame_places[place] as usize;
-                    let (a, b) = (self.place(words[2]), self.place(words[3]));
-                    for k in 0..self.words_of(place) {
-                        self.frame[to + k] = Self::binary(op, self.frame[a + k], self.frame[b + k]);
-                    }
-                    None
-                }
-            };
-            match to {
-                None => place += 1,
-                Some(target) => {
-                    let target = self.defined[target as usize].unwrap_or(0) as usize;
-                    if target <= place {
-                        back_edges += 1;
-                        if back_edges >= BACK_EDGES {
-                            break 2;
-                        }
-                    }
-                    place = target;
-                }
-            }
-        };
-        let left = if kind == 0 { self.output.map_or(0, |place| self.memory[place as usize]) } else { 0 };
-        Ended { kind, left: left + u32::from(before == u32::MAX), work }
-    }
-}
 
 fn time_module(name: &str) {
     let bytes = fs::read(format!("{name}.spv")).unwrap();
-    let module = read(&bytes);
-    let buffers = vec![(0..64).collect::<Vec<u32>>()];
-    let mut prepared = Prepared::new(&module);
+    let words: Vec<u32> = bytes.chunks_exact(4).map(|b| u32::from_le_bytes([b[0], b[1], b[2], b[3]])).collect();
+    let module = read(&words);
+    let uniform: Vec<u32> = (0..64).collect();
+    let given = Given::default();
+    let mut prepared = Prepared::new(&module, &[]);
     let mut best = u128::MAX;
-    let mut ended = Ended { kind: 0, left: 0, work: 0 };
+    let mut ended = prepared.run(&given, &uniform);
     for _ in 0..ROUNDS {
         let start = Instant::now();
         for _ in 0..RUNS {
-            ended = prepared.run(&buffers);
+            ended = prepared.run(&given, &uniform);
         }
         best = best.min(start.elapsed().as_nanos());
     }
     assert!(ended.kind < 3);
-    println!("{name}, a step\t{best}\t{}\t{}", ended.work * u64::from(RUNS), ended.left);
+    println!("{name}, a step\t{best}\t{}\t{}", ended.work * u64::from(RUNS), ended.slots[0][0]);
     let mut best = u128::MAX;
     let mut length = 0;
     for _ in 0..ROUNDS {
         let start = Instant::now();
         for _ in 0..RUNS {
-            length += Prepared::new(&module).frame.len();
+            length += Prepared::new(&module, &[]).frame.len();
         }
         best = best.min(start.elapsed().as_nanos());
     }
