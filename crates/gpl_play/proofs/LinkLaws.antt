@@ -1,9 +1,9 @@
 -- The libraries of pipes, by the modules and the libraries of a trace alone.
-use Rattle.std.proofs.Common.{◌≡◌, ℕ, ◌+◌, ◌<◌, List, [], ◌∷◌, ◌++◌, take, refl, ap, sym, ◌∙◌, append-nil, length, Option, None, Some}
+use Rattle.std.proofs.Common.{◌≡◌, ℕ, zero, suc, ◌+◌, ◌<◌, List, [], ◌∷◌, ◌++◌, take, refl, ap, sym, ◌∙◌, subst, append-nil, length, Option, None, Some}
 use Rattle.std.proofs.Math.Path.{fun_ext}
 use Rattle.std.proofs.lemmas.List.{take_more}
-use Rattle.std.proofs.lemmas.List.Elements.{All-nil, All-cons, All-append, filter_map-append}
-use Rattle.std.specs.List.{filter_map, cons_option}
+use Rattle.std.proofs.lemmas.List.Elements.{All-nil, All-cons, All-head, All-tail, All-append, filter_map-append}
+use Rattle.std.specs.List.{All, filter_map, cons_option}
 use Rattle.std.specs.Option.{option_map_or}
 use Rattle.std.specs.Prelude.{slice_get, slice_index, slice_index_or}
 use Rattle.spirv_model.specs.declared.module.Words.{Words}
@@ -57,6 +57,11 @@ one_library_more modules given more =
     filter_map-append (fragment_in (with_modules modules)) given (more ∷ []), filter_map-append output_in given (more ∷ [])) refl
 
 -- ---- lawful parts
+
+pub has_get : {A : Type 0} (P : A → Type 0) (xs : List A) (i : ℕ) (x : A) → All P xs → slice_get xs i ≡ Some x → P x
+has_get P [] i x h e = cc
+has_get P (y ∷ xs) zero x h e = let same : y ≡ x = cc e in subst P same (All-head P y xs h)
+has_get P (y ∷ xs) (suc i) x h e = has_get P xs i x (All-tail P y xs h) e
 
 one_lawful : (modules : List Words) (library : Library) → IsLibrary modules library → HoldsLawfulParts (libraries_given modules (library ∷ []))
 one_lawful modules (library.Vertex part) is = record {
