@@ -2,7 +2,7 @@ use Rattle.std.proofs.Common.{◌≡◌, ℕ, ◌≤◌, List, length, take, sym
 use Rattle.std.specs.List.{filter_map}
 use Rattle.std.specs.Option.{option_copied}
 use Rattle.std.specs.Prelude.{slice_get, slice_index}
-use Rattle.std.proofs.lemmas.List.{get_or_read, take_all}
+use Rattle.std.proofs.lemmas.List.{take_all}
 use Rattle.link_rules.specs.Libs.{libraries}
 use Rattle.link_rules.specs.Parts.{HoldsLawfulParts}
 use Rattle.trace_model.specs.declared.whole.Library.{Library}
@@ -15,7 +15,7 @@ pub loop-number-preserved-in_default : goal.loop-number-preserved-in_default
 loop-number-preserved-in_default c =
     let l = c.loop-number in
     let a = c.args in
-    let number = c.from.ensures ∙ get_or_read a.pipe.now l.number-index c.number-item.result c.loop-number-test.true c.number-item.is 0 in
+    let number : c.from.result ≡ slice_index a.pipe.now l.number-index = c.from.ensures in
     let none_there = ap (slice_get a.libs.now) (sym number) ∙ sym c.at.ensures ∙ ap option_copied c.in_default.is in
     record {
       are = given_same a.modules.now a.libs.now a.pipe.now l.number-index (libraries l.made) c.loop-number-test.true none_there l.invariant.are;
@@ -31,7 +31,7 @@ loop-number-preserved c =
     let l = c.loop-number in
     let a = c.args in
     let there = sym c.at.ensures ∙ ap option_copied c.in-Some.is in
-    let number = c.from.ensures ∙ get_or_read a.pipe.now l.number-index c.number-item.result c.loop-number-test.true c.number-item.is 0 in
+    let number : c.from.result ≡ slice_index a.pipe.now l.number-index = c.from.ensures in
     let is = has_get (IsLibrary a.modules.now) a.libs.now c.from.result c.in-Some.library.now c.requires there in
     record {
       are =

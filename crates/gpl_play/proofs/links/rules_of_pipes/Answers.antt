@@ -12,8 +12,8 @@ loop-pipe-preserved c =
     let made = libraries c.in_ok-given.given in
     let given = given_at a.modules.now a.libs.now a.pipes.now l.pipe-index c.pipe-item.result c.as_slice.result.now made c.loop-pipe-test.true c.pipe-item.is c.as_slice.ensures c.in_ok-given.ensures.libraries in
     c.in_ok-push.ensures.items
-    ∙ ap (λ (fast : Option Rule). l.rules.items ++ (fast, c.err-2.result) ∷ []) (c.err.ensures.value ∙ c.link.ensures)
-    ∙ ap (λ (optimised : Option Rule). l.rules.items ++ (failed_rule made false, optimised) ∷ []) (c.err-2.ensures.value ∙ c.link-2.ensures)
+    ∙ ap (λ (fast : Option Rule). l.rules.items ++ (fast, c.err-in-loop-pipe.result) ∷ []) (c.err.ensures.value ∙ c.link.ensures)
+    ∙ ap (λ (optimised : Option Rule). l.rules.items ++ (failed_rule made false, optimised) ∷ []) (c.err-in-loop-pipe.ensures.value ∙ c.link-in-loop-pipe.ensures)
     ∙ rules_more a.modules.now a.libs.now a.pipes.now l.pipe-index l.rules.items made l.invariant given
 
 pub returns : goal.returns
