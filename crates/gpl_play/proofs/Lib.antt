@@ -1,5 +1,4 @@
 pub mod DrawSteps
-pub mod GivenLibraries
 pub mod LinkLaws
 pub mod Outcomes
 pub mod PipeLinks

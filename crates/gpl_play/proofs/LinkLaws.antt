@@ -1,9 +1,9 @@
 -- The libraries of pipes, by the modules and the libraries of a trace alone.
-use Rattle.std.proofs.Common.{◌≡◌, ℕ, ◌+◌, ◌<◌, List, [], ◌∷◌, ◌++◌, take, refl, ap, sym, ◌∙◌, append-nil, length, Option, None, Some}
+use Rattle.std.proofs.Common.{◌≡◌, ℕ, zero, suc, ◌+◌, ◌<◌, List, [], ◌∷◌, ◌++◌, take, reverse, refl, ap, sym, ◌∙◌, subst, append-nil, length, Option, None, Some}
 use Rattle.std.proofs.Math.Path.{fun_ext}
-use Rattle.std.proofs.lemmas.List.{take_more}
-use Rattle.std.proofs.lemmas.List.Elements.{All-nil, All-cons, All-append, filter_map-append}
-use Rattle.std.specs.List.{filter_map, cons_option}
+use Rattle.std.proofs.lemmas.List.{take_more, reverse-append, append_assoc}
+use Rattle.std.proofs.lemmas.List.Elements.{All-nil, All-cons, All-head, All-tail, All-append, filter_map-append}
+use Rattle.std.specs.List.{All, filter_map, cons_option}
 use Rattle.std.specs.Option.{option_map_or}
 use Rattle.std.specs.Prelude.{slice_get, slice_index, slice_index_or}
 use Rattle.spirv_model.specs.declared.module.Words.{Words}
@@ -56,7 +56,31 @@ one_library_more modules given more =
     rw (filter_map-append vertex_in given (more ∷ []), filter_map-append (prerast_in (with_modules modules)) given (more ∷ []),
     filter_map-append (fragment_in (with_modules modules)) given (more ∷ []), filter_map-append output_in given (more ∷ [])) refl
 
+-- ---- lists
+
+pub middle : {A : Type 0} (P : A → Type 0) (front : List A) (x : A) (rest : List A) → All P (front ++ x ∷ rest) → P x
+middle P [] x rest h = All-head P x rest h
+middle P (y ∷ front) x rest h = middle P front x rest (All-tail P y (front ++ x ∷ rest) h)
+
+pub front_all : {A : Type 0} (P : A → Type 0) (front rest : List A) → All P (front ++ rest) → All P front
+front_all P [] rest h = All-nil P
+front_all P (y ∷ front) rest h = All-cons P y front (All-head P y (front ++ rest) h) (front_all P front rest (All-tail P y (front ++ rest) h))
+
+-- the last of some is moved to the front of the others
+pub one_moved : {A : Type 0} (rest now moved all : List A) (x y : A) → rest ≡ now ++ x ∷ [] → y ≡ x → rest ++ reverse moved ≡ all → now ++ reverse (moved ++ y ∷ []) ≡ all
+one_moved rest now moved all x y is same h =
+    ap (λ zs. now ++ zs) (reverse-append moved (y ∷ []))
+    ∙ ap (λ z. now ++ z ∷ reverse moved) same
+    ∙ sym (append_assoc now (x ∷ []) (reverse moved))
+    ∙ ap (λ zs. zs ++ reverse moved) (sym is)
+    ∙ h
+
 -- ---- lawful parts
+
+pub has_get : {A : Type 0} (P : A → Type 0) (xs : List A) (i : ℕ) (x : A) → All P xs → slice_get xs i ≡ Some x → P x
+has_get P [] i x h e = cc
+has_get P (y ∷ xs) zero x h e = let same : y ≡ x = cc e in subst P same (All-head P y xs h)
+has_get P (y ∷ xs) (suc i) x h e = has_get P xs i x (All-tail P y xs h) e
 
 one_lawful : (modules : List Words) (library : Library) → IsLibrary modules library → HoldsLawfulParts (libraries_given modules (library ∷ []))
 one_lawful modules (library.Vertex part) is = record {

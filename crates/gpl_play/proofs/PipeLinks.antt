@@ -1,9 +1,9 @@
 -- What pipes link to, one after the other.
-use Rattle.std.proofs.Common.{◌≡◌, ℕ, zero, suc, ◌+◌, List, [], ◌∷◌, ◌++◌, length, map, refl, ap, sym, ◌∙◌, subst, arith, false, true, Option, None, Some, Result, Ok, Err}
+use Rattle.std.proofs.Common.{◌≡◌, ℕ, zero, suc, ◌+◌, ◌<◌, List, [], ◌∷◌, ◌++◌, length, get_or, map, refl, ap, sym, ◌∙◌, subst, arith, false, true, Option, None, Some, Result, Ok, Err}
 use Rattle.std.proofs.Math.Path.{fun_ext}
-use Rattle.std.proofs.lemmas.List.{length-append}
+use Rattle.std.proofs.lemmas.List.{length-append, get_or_read}
 use Rattle.std.proofs.lemmas.List.FromFn.{map-range_with_len_more}
-use Rattle.std.specs.List.{range_with_len}
+use Rattle.std.specs.List.{filter_map, range_with_len}
 use Rattle.std.specs.Prelude.{slice_get}
 use Rattle.spirv_model.specs.declared.module.Words.{Words}
 use Rattle.state_model.specs.declared.parts.State.{State}
@@ -14,11 +14,17 @@ use Rattle.trace_model.specs.declared.whole.Library.{Library}
 use Rattle.trace_model.specs.declared.whole.Trace.{Trace}
 use Rattle.trace_model.specs.Pipes.{pipe_libraries}
 use Rattle.trace_text.specs.Printed.{pipe_rules}
-use Rattle.gpl_play.specs.Links.{HasObjects, AreLinks, AreLinksUntil, IsLinkOf, libraries_at}
+use Rattle.gpl_play.specs.Links.{HasObjects, AreLinks, AreLinksUntil, IsLinkOf, libraries_at, libraries_given}
 use Rattle.gpl_play.proofs.DrawSteps.{unless_failed}
 use Rattle.gpl_play.proofs.LinkLaws.{libraries_are}
 
 -- ---- one link
+
+-- the libraries with the numbers of a pipe
+pub given_at : (modules : List Words) (libs : List Library) (pipes : List (List ℕ)) (i : ℕ) (pipe numbers : List ℕ) (given : Libraries) → i < length pipes → pipe ≡ get_or pipes i pipe → numbers ≡ pipe
+    → given ≡ libraries_given modules (filter_map (slice_get libs) numbers) → given ≡ libraries_at modules libs pipes i
+given_at modules libs pipes i pipe numbers given within at same is =
+    is ∙ ap (λ (ns : List ℕ). libraries_given modules (filter_map (slice_get libs) ns)) (same ∙ get_or_read pipes i pipe within at [])
 
 pub linked_is : (libs : Libraries) (state : State) → failed_rule libs false ≡ None → linked_state libs ≡ Some state → state_if_linked libs ≡ Some state
 unfolding state_if_linked

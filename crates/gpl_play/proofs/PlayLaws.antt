@@ -1,6 +1,5 @@
 -- Single draws of lawful traces: what they are made from, and what they leave.
 use Rattle.std.proofs.Common.{◌≡◌, ℕ, ◌<◌, List, [], ◌∷◌, ◌++◌, length, refl, ap, sym, ◌∙◌, subst, append-nil, Option, None, Some, Ok}
-use Rattle.std.proofs.lemmas.List.Elements.{All-head, All-tail}
 use Rattle.std.proofs.lemmas.Option.{slice_get_within}
 use Rattle.std.specs.List.{All, fold}
 use Rattle.std.specs.Option.{option_map, option_map_or}
@@ -27,6 +26,7 @@ use Rattle.trace_model.proofs.LawfulDynamics.{IsDrawn, draws-lawful}
 use Rattle.trace_model.proofs.LawfulPlays.{lawful-may-be-drawn}
 use Rattle.gpl_play.specs.Links.{with_modules}
 use Rattle.gpl_play.specs.Plays.{Drawables, AreOf, AreLeftBy, IsDraw, IsDrawOf}
+use Rattle.gpl_play.proofs.LinkLaws.{middle}
 use Rattle.gpl_play.proofs.DrawSteps.{one_more, refused_targets, refused_more, linked_targets, linked_more}
 
 -- ---- what a draw leaves
@@ -58,10 +58,6 @@ refused_left trace front drawn targets refused number rule fails is left =
     }
 
 -- ---- what it is made from
-
-pub middle : {A : Type 0} (P : A → Type 0) (front : List A) (x : A) (rest : List A) → All P (front ++ x ∷ rest) → P x
-middle P [] x rest h = All-head P x rest h
-middle P (y ∷ front) x rest h = middle P front x rest (All-tail P y (front ++ x ∷ rest) h)
 
 pub pipe_within : (objects : Drawables) (number : ℕ) (drawn : RecordedDraw) (targets : Targets) (refused : List (ℕ × Rule)) → IsDrawOf objects number drawn targets refused → drawn.pipe < length objects.links
 pipe_within objects number drawn targets refused d =

@@ -17,7 +17,7 @@ use Rattle.trace_model.specs.ObjectCauses.{is_draw}
 use Rattle.trace_model.specs.Playing.{first_dynamic, after_step, RecordedDraw, dynamic_at, draws_from, draws_of}
 use Rattle.trace_model.proofs.DrawSplits.{recorded_after, recorded, draws_from-append, draws-at}
 use Rattle.gpl_play.specs.Plays.{Drawables, AreOf, AreLeftBy, IsDrawOf, IsPlayOf, drawn_by}
-use Rattle.gpl_play.proofs.PlayLaws.{middle}
+use Rattle.gpl_play.proofs.LinkLaws.{middle}
 
 -- ---- lists
 

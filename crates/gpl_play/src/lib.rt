@@ -9,6 +9,7 @@ mod play;
 mod player;
 mod read;
 mod recorder;
+mod state_modules;
 pub mod status;
 mod still;
 mod take;

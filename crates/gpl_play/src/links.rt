@@ -9,13 +9,14 @@ ghost use Rattle.trace_model.specs.declared.whole.Trace as trace;
 ghost use Rattle.trace_text.specs.Printed.{pipe_rules};
 ghost use Rattle.gpl_play.specs.Links.{HasObjects, AreLinks, IsLinkOf, libraries_given, with_library};
 
+use crate::state_modules::module_at;
 use fragment_lib::FragmentLib;
 use link_rules::{Libs, link};
 use output_lib::OutputLib;
 use prerast_lib::PrerastLib;
 use spirv_model::Words;
 use spv_check::{Module, valid_module};
-use sqlite_items::Items;
+use sqlite_items::{Items, at};
 use state_model::{Rule, State};
 use std::alloc::{AllocError, Global};
 use trace_model::whole::Library;
@@ -101,9 +102,10 @@ fn libraries_of(
         output: Vec::new(alloc),
     };
     for number in pipe {
-        if let Some(library) = libs.get(usize::from(*number)) {
-            give(&mut made, modules, library)?;
-        }
+        let Some(library) = at(libs, usize::from(*number)) else {
+            continue;
+        };
+        give(&mut made, modules, library)?;
     }
     Ok(made)
 }
@@ -115,18 +117,25 @@ fn give(made: &mut Libs, modules: &[Module], library: &Library) -> Result<(), Al
         ≡ with_library modules.now (libraries made.old) library.now) }
 {
     match library {
-        Library::Vertex(part) => made.vertex.push(VertexLib::new(*part))?,
+        Library::Vertex(part) => {
+            made.vertex.push(VertexLib::new(*part))?;
+            Ok(())
+        }
         Library::Prerast(part) => {
-            let shader = &modules[part.module as usize];
+            let shader = module_at(modules, part.module);
             let library = PrerastLib::new(*part, *shader.inputs(), *shader.outputs());
             made.prerast.push(library)?;
+            Ok(())
         }
         Library::Fragment(part) => {
-            let shader = &modules[part.module as usize];
+            let shader = module_at(modules, part.module);
             let library = FragmentLib::new(*part, *shader.inputs(), *shader.outputs());
             made.fragment.push(library)?;
+            Ok(())
         }
-        Library::Output(part) => made.output.push(OutputLib::new(*part))?,
+        Library::Output(part) => {
+            made.output.push(OutputLib::new(*part))?;
+            Ok(())
+        }
     }
-    Ok(())
 }

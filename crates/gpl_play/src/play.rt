@@ -1,16 +1,14 @@
 //! The text of a trace that is played.
-ghost use Rattle.std.specs.Prelude.{◌≡◌, ℕ, ◌<◌, List, [], ◌∷◌, ◌++◌, length, map, slice_get, Some, IfSome, IfOk, OnOk};
-ghost use Rattle.int_device.specs.Modules.{insts_of};
+ghost use Rattle.std.specs.Prelude.{◌≡◌, ℕ, ◌<◌, List, [], ◌∷◌, ◌++◌, length, map, slice_get, Some, IfOk, OnOk};
 ghost use Rattle.trace_model.specs.LawfulPlay.{LawfulTrace};
-ghost use Rattle.trace_model.specs.Pipes.{fragment_insts};
 ghost use Rattle.trace_model.specs.PlayText as spec;
 ghost use Rattle.trace_model.specs.Playing.{RecordedDraw, after_linked, draws_of};
 ghost use Rattle.trace_model.specs.declared.whole.Trace as trace;
-ghost use Rattle.gpl_play.specs.Links.{with_modules};
 ghost use Rattle.gpl_play.specs.Plays.{Drawables, AreOf, AreLeftBy, IsDraw, IsDrawOf, IsPlayOf, drawn_by};
 
 use crate::links::{link_pipes, valid_modules};
 use crate::recorder::{dynamic_of, first_dynamic, take_line};
+use crate::state_modules::{fragment_module, module_at};
 use draw_model::framebuffer::Target;
 use draw_model::{DrawCall, Dynamic, Targets};
 use int_device::whole_draw::draw_modules;
@@ -176,25 +174,6 @@ fn draw_linked(
         alloc, vertex, fragment, state, dynamic, call, buffers, targets,
     )?;
     Ok(())
-}
-
-/// The fragment module of a state, where it has one.
-fn fragment_module<'a>(modules: &'a [Module], state: &State) -> Option<&'a Module>
-    requires { IfSome state.now.fragment (λ part. part.«module» < length modules.now) }
-    ensures { insts_of result ≡ fragment_insts (with_modules modules.now) state.now }
-{
-    match &state.fragment {
-        Some(part) => Some(module_at(modules, part.module)),
-        None => None,
-    }
-}
-
-/// The module with a number.
-fn module_at(modules: &[Module], number: u32) -> &Module
-    requires { number < length modules.now }
-    ensures { slice_get modules.now number ≡ Some result.now }
-{
-    &modules[number as usize]
 }
 
 /// What a pipe links to.
