@@ -1,5 +1,6 @@
 pub mod Assembly
 pub mod Listing
 pub mod Meaning
+pub mod ModuleTexts
 pub mod Names
 pub mod Spelling

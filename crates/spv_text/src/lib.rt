@@ -9,7 +9,7 @@ mod names;
 mod parts;
 
 pub use lines::assemble;
-pub use list::list_text;
+pub use list::{list_text, modules_text};
 pub use listing_model::{LISTING_BYTES, ListFault, TextCause, TextFault};
 pub use spirv_model::WordsFault;
 

@@ -17,6 +17,7 @@ pub mod SeveralFields
 pub mod SpecIdLaws
 pub mod Targets
 pub mod TraceLimits
+pub mod WorkedCodes
 pub mod WorkedFaults
 pub mod WorkedLines
 pub mod WorkedPlays
