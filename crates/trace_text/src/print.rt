@@ -1,9 +1,7 @@
-ghost use Rattle.std.specs.Prelude.{◌≡◌, ◌∷◌, ◌++◌, IfOk, OnOk};
-ghost use Rattle.trace_model.specs.Text.{word_text};
-ghost use Rattle.std.specs.List.{flat_map};
+ghost use Rattle.std.specs.Prelude.{◌≡◌, ◌++◌, IfOk, OnOk};
 ghost use Rattle.trace_model.specs.Output as output;
 
-use crate::digits::{push_decimal, push_word};
+use crate::digits::{push_decimal, push_word, push_words};
 use draw_model::Target;
 use std::alloc::{AllocError, Global};
 
@@ -42,18 +40,7 @@ fn push_row(text: &mut Vec<u8>, row: &[u32]) -> Result<(), AllocError>
         return Ok(());
     };
     push_word(text, *first)?;
-    push_others(text, others)?;
+    push_words(text, others)?;
     text.push(b'\n')?;
-    Ok(())
-}
-
-fn push_others(text: &mut Vec<u8>, words: &[u32]) -> Result<(), AllocError>
-    ensures { OnOk result (text.new.items ≡ text.old.items ++ flat_map (λ word. 32
-        ∷ word_text word) words.now) }
-{
-    for word in words {
-        text.push(b' ')?;
-        push_word(text, *word)?;
-    }
     Ok(())
 }

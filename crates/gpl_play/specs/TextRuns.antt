@@ -1,0 +1,58 @@
+-- What a run between modules and text reads and writes.
+use Rattle.std.specs.Prelude.{◌≡◌, ℕ, true, List, [], ◌∷◌, codes, Option, IfSome}
+use Rattle.std.specs.Io.KnownBytes.{IsAtEnd}
+use Rattle.listing_model.specs.Meaning.{IsListing, are_words}
+use Rattle.listing_model.specs.ModuleTexts.{modules_text}
+use Rattle.trace_model.specs.CodeText.{code_text}
+use Rattle.trace_model.specs.declared.whole.Trace.{Trace}
+use Rattle.trace_model.specs.Reading.{IsTraceOf, HasTraceFault}
+use Rattle.gpl_play.specs.Listings.{HasListingFault}
+use Rattle.gpl_play.specs.Runs.{IsPrinted}
+use Rattle.gpl_play.specs.declared.call.TextCall.{TextCall}
+use Rattle.gpl_play.specs.declared.call.TextCall.TheVariants.{Listings, Assembly}
+use Rattle.gpl_play.specs.declared.text.TextRunFault.{TextRunFault}
+use Rattle.gpl_play.specs.declared.text.TextRunFault.TheVariants as fault
+
+-- ---- the forms of words
+
+abbrev pub text_words : TextCall → List (List ℕ)
+text_words Listings = codes "text" ∷ []
+text_words Assembly = codes "assemble" ∷ []
+
+abbrev pub IsText : List (List ℕ) → Type 0
+IsText words = (call : TextCall) × (words ≡ text_words call)
+
+-- ---- of a call
+
+-- this text is due to the bytes
+abbrev pub IsDue : TextCall → List ℕ → List ℕ → Type 0
+IsDue Listings bytes text = IsPrinted (λ trace. modules_text trace.modules) bytes text
+IsDue Assembly bytes text = (words : List ℕ) × IsListing bytes words × (text ≡ code_text words)
+
+-- the bytes are no trace, or no listing
+abbrev pub HasTextFault : TextCall → List ℕ → TextRunFault → Type 0
+HasTextFault Listings bytes (fault.Trace reason) = HasTraceFault bytes reason
+HasTextFault Listings bytes (fault.Text reason) = ⊥
+HasTextFault Assembly bytes (fault.Trace reason) = ⊥
+HasTextFault Assembly bytes (fault.Text reason) = HasListingFault bytes reason
+
+-- the bytes are a trace, or a listing of words of 32 bits
+abbrev pub IsSound : TextCall → List ℕ → Type 0
+IsSound Listings bytes = (trace : Trace) × IsTraceOf bytes trace
+IsSound Assembly bytes = (words : List ℕ) × IsListing bytes words × (are_words words ≡ true)
+
+-- this text is due to what was left, and all of it was read
+pub record TakesText (call : TextCall) (before after : Option (List ℕ)) (text : List ℕ) : Type 0 where
+  pub all : IfSome before (λ bytes. IsDue call bytes text)
+  pub ended : IsAtEnd after
+
+-- ---- by the call that the words are a form of
+
+abbrev pub IsTextFor : List (List ℕ) → List ℕ → List ℕ → Type 0
+IsTextFor words bytes text = (call : TextCall) × (words ≡ text_words call) × IsDue call bytes text
+
+abbrev pub HasFaultFor : List (List ℕ) → List ℕ → TextRunFault → Type 0
+HasFaultFor words bytes fault = (call : TextCall) × (words ≡ text_words call) × HasTextFault call bytes fault
+
+abbrev pub IsSoundFor : List (List ℕ) → List ℕ → Type 0
+IsSoundFor words bytes = (call : TextCall) × (words ≡ text_words call) × IsSound call bytes
