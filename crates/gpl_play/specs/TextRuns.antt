@@ -1,8 +1,10 @@
 -- What a run between modules and text reads and writes.
 use Rattle.std.specs.Prelude.{◌≡◌, ℕ, true, List, [], ◌∷◌, codes, Option, IfSome}
 use Rattle.std.specs.Io.KnownBytes.{IsAtEnd}
+use Rattle.listing_model.specs.FaultText as listing
 use Rattle.listing_model.specs.Meaning.{IsListing, are_words}
 use Rattle.listing_model.specs.ModuleTexts.{modules_text}
+use Rattle.trace_model.specs.FaultText as trace
 use Rattle.trace_model.specs.CodeText.{code_text}
 use Rattle.trace_model.specs.declared.whole.Trace.{Trace}
 use Rattle.trace_model.specs.Reading.{IsTraceOf, HasTraceFault}
@@ -56,3 +58,9 @@ HasFaultFor words bytes fault = (call : TextCall) × (words ≡ text_words call)
 
 abbrev pub IsSoundFor : List (List ℕ) → List ℕ → Type 0
 IsSoundFor words bytes = (call : TextCall) × (words ≡ text_words call) × IsSound call bytes
+
+-- ---- what is told of a fault
+
+abbrev pub run_fault_line : TextRunFault → List ℕ
+run_fault_line (fault.Trace reason) = trace.fault_line reason
+run_fault_line (fault.Text reason) = listing.fault_line reason

@@ -4,7 +4,7 @@ ghost use Rattle.basics.specs.Count.{Rose};
 ghost use Rattle.gpl_play.specs.Reads.{ReadsSome};
 ghost use Rattle.gpl_play.specs.Runs.{NoFault, WritesDue, WritesDueFront, IsFaulty, IsRefusedIfFaulty, IsDoneIfSound};
 ghost use Rattle.gpl_play.specs.Takes.{HasFailed, Stops, stop_fault, stop_status};
-ghost use Rattle.gpl_play.specs.TextRuns.{IsText, IsTextFor, HasFaultFor, IsSoundFor, HasTextFault, TakesText};
+ghost use Rattle.gpl_play.specs.TextRuns.{IsText, IsTextFor, HasFaultFor, IsSoundFor, HasTextFault, TakesText, run_fault_line};
 ghost use Rattle.gpl_play.specs.declared.call.TextCall.TheVariants.{Listings, Assembly};
 
 use crate::call::{TextCall, text_call};
@@ -13,7 +13,7 @@ use crate::status::{DONE, NO_MEMORY, READ_FAILED, REFUSED, USAGE, WRITE_FAILED};
 use crate::take::{Stop, take_trace, take_words};
 use gpl_edge::{Sink, Source};
 use spv_text::{TextFault, modules_text};
-use std::alloc::Global;
+use std::alloc::{AllocError, Global};
 use thiserror::Error;
 use trace_model::line_fault::TraceFault;
 use trace_text::code_text;
@@ -34,6 +34,16 @@ pub enum TextRunFault {
     Trace(TraceFault),
     #[error("line {}: {}", .0.line, .0.cause)]
     Text(TextFault),
+}
+
+/// The line on standard error for bytes that are no trace, or no listing.
+pub fn text_fault_line(alloc: Global, fault: &TextRunFault) -> Result<Vec<u8>, AllocError>
+    ensures { IfOk result (λ line. line.items ≡ run_fault_line fault.now) }
+{
+    match fault {
+        TextRunFault::Trace(fault) => trace_text::fault_line(alloc, fault),
+        TextRunFault::Text(fault) => spv_text::fault_line(alloc, fault),
+    }
 }
 
 /// Reads a trace, and writes the listings of its modules (`text`), or reads a listing, and writes the words that it is

@@ -1,4 +1,5 @@
 pub mod Assembly
+pub mod FaultText
 pub mod Listing
 pub mod Meaning
 pub mod ModuleTexts
