@@ -1,6 +1,6 @@
 -- How the end of a call keeps its promises, whatever its input and its text are.
-use Rattle.std.proofs.Common.{◌≡◌, ◌≢◌, ℕ, ◌≤◌, List, refl, ap, sym, ◌∙◌, subst, arith, ◌⊎◌, inl, inr, Option, None, Some}
-use Rattle.std.specs.Prelude.{◌↔◌, IsSome, IfSome, Result, Err}
+use Rattle.std.proofs.Common.{◌≡◌, ℕ, ◌≤◌, List, refl, ap, sym, ◌∙◌, subst, arith, ◌⊎◌, inl, inr, Option, None, Some}
+use Rattle.std.specs.Prelude.{◌≢◌, ◌↔◌, IsSome, IfSome, Result, Err}
 use Rattle.std.specs.Io.KnownBytes.{Appends}
 use Rattle.gpl_play.specs.declared.status.TheConstants.{DONE, USAGE, REFUSED, READ_FAILED, WRITE_FAILED, NO_MEMORY}
 use Rattle.gpl_play.specs.declared.take.Stop.{Stop}
