@@ -1,10 +1,10 @@
 -- What a run between modules and text reads and writes.
 use Rattle.std.specs.Prelude.{◌≡◌, ℕ, true, List, [], ◌∷◌, codes, Option, IfSome}
 use Rattle.std.specs.Io.KnownBytes.{IsAtEnd}
-use Rattle.listing_model.specs.FaultText as listing
+use Rattle.listing_model.specs.FaultText as listing_fault
 use Rattle.listing_model.specs.Meaning.{IsListing, are_words}
 use Rattle.listing_model.specs.ModuleTexts.{modules_text}
-use Rattle.trace_model.specs.FaultText as trace
+use Rattle.trace_model.specs.FaultText as trace_fault
 use Rattle.trace_model.specs.CodeText.{code_text}
 use Rattle.trace_model.specs.declared.whole.Trace.{Trace}
 use Rattle.trace_model.specs.Reading.{IsTraceOf, HasTraceFault}
@@ -13,7 +13,7 @@ use Rattle.gpl_play.specs.Runs.{IsPrinted}
 use Rattle.gpl_play.specs.declared.call.TextCall.{TextCall}
 use Rattle.gpl_play.specs.declared.call.TextCall.TheVariants.{Listings, Assembly}
 use Rattle.gpl_play.specs.declared.text.TextRunFault.{TextRunFault}
-use Rattle.gpl_play.specs.declared.text.TextRunFault.TheVariants as fault
+use Rattle.gpl_play.specs.declared.text.TextRunFault.TheVariants as of
 
 -- ---- the forms of words
 
@@ -33,10 +33,10 @@ IsDue Assembly bytes text = (words : List ℕ) × IsListing bytes words × (text
 
 -- the bytes are no trace, or no listing
 abbrev pub HasTextFault : TextCall → List ℕ → TextRunFault → Type 0
-HasTextFault Listings bytes (fault.Trace reason) = HasTraceFault bytes reason
-HasTextFault Listings bytes (fault.Text reason) = ⊥
-HasTextFault Assembly bytes (fault.Trace reason) = ⊥
-HasTextFault Assembly bytes (fault.Text reason) = HasListingFault bytes reason
+HasTextFault Listings bytes (of.Trace reason) = HasTraceFault bytes reason
+HasTextFault Listings bytes (of.Text reason) = ⊥
+HasTextFault Assembly bytes (of.Trace reason) = ⊥
+HasTextFault Assembly bytes (of.Text reason) = HasListingFault bytes reason
 
 -- the bytes are a trace, or a listing of words of 32 bits
 abbrev pub IsSound : TextCall → List ℕ → Type 0
@@ -62,5 +62,5 @@ IsSoundFor words bytes = (call : TextCall) × (words ≡ text_words call) × IsS
 -- ---- what is told of a fault
 
 abbrev pub run_fault_line : TextRunFault → List ℕ
-run_fault_line (fault.Trace reason) = trace.fault_line reason
-run_fault_line (fault.Text reason) = listing.fault_line reason
+run_fault_line (of.Trace reason) = trace_fault.fault_line reason
+run_fault_line (of.Text reason) = listing_fault.fault_line reason

@@ -15,7 +15,7 @@ use trace_model::whole::Trace;
 use trace_text::{ReadFault, read_whole};
 
 /// Why nothing was taken.
-#[derive(Clone, Copy, Debug, Drop, PartialEq, Eq)]
+#[derive(Drop)]
 pub enum Stop<F> {
     /// A read failed.
     Failed,

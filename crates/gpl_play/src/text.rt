@@ -30,8 +30,10 @@ pub struct TextOutcome {
 /// Why bytes are no trace, or no listing: the first faulty line, and the first cause on it.
 #[derive(Clone, Copy, Debug, Drop, PartialEq, Eq, Error)]
 pub enum TextRunFault {
+    /// They are no trace.
     #[error("line {}: {}", .0.line, .0.cause)]
     Trace(TraceFault),
+    /// They are no listing.
     #[error("line {}: {}", .0.line, .0.cause)]
     Text(TextFault),
 }
