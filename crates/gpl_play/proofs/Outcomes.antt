@@ -7,8 +7,6 @@ use Rattle.limits.specs.declared.TheConstants.{TRACE_BYTES}
 use Rattle.listing_model.specs.declared.fault.TextFault.{TextFault}
 use Rattle.listing_model.specs.declared.fault.TextCause.TheVariants as text
 use Rattle.listing_model.specs.Assembly.{assembled}
-use Rattle.listing_model.specs.Meaning.{IsListing}
-use Rattle.listing_model.proofs.Assembled.{is_listing}
 use Rattle.spv_text.proofs.Assembling as listing
 use Rattle.trace_model.specs.declared.line_fault.TraceFault.{TraceFault}
 use Rattle.trace_model.specs.declared.line_fault.Cause.TheVariants.{TooLong}
@@ -100,7 +98,7 @@ long_listing bytes long = listing.too_long bytes (omega (arith, long))
 pub words_taken : (before after : Option (List ℕ)) (bytes words : List ℕ) → Reads before after bytes → assembled bytes ≡ Ok words → TakesWords before after words
 words_taken before after bytes words reads h =
     let taken = value_taken assembled last_fault long_listing before after bytes words reads h in
-    record { all = mapped before (λ all. assembled all ≡ Ok words) (λ all. IsListing all words) (λ all is. is_listing all words is) taken.0; ended = taken.1 }
+    record { all = taken.0; ended = taken.1 }
 
 pub listing_fault_taken : (before after : Option (List ℕ)) (bytes : List ℕ) (fault : TextFault) → Reads before after bytes → assembled bytes ≡ Err fault
     → TakesFault HasListingFault before after fault

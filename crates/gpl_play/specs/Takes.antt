@@ -1,10 +1,10 @@
 -- What taking a trace or a listing from a source gives.
-use Rattle.std.specs.Prelude.{◌≡◌, ℕ, List, Option, None, Some, IfSome, Result, Err}
+use Rattle.std.specs.Prelude.{◌≡◌, ℕ, List, Option, None, Some, IfSome, Result, Ok, Err}
 use Rattle.std.specs.Io.KnownBytes.{IsAtEnd}
 use Rattle.trace_model.specs.declared.whole.Trace.{Trace}
 use Rattle.trace_model.specs.LawfulPlay.{LawfulTrace}
 use Rattle.trace_model.specs.Reading.{IsTraceOf}
-use Rattle.listing_model.specs.Meaning.{IsListing}
+use Rattle.listing_model.specs.Assembly.{assembled}
 use Rattle.gpl_play.specs.Reads.{ReadsSome}
 use Rattle.gpl_play.specs.declared.status.TheConstants.{REFUSED, READ_FAILED, NO_MEMORY}
 use Rattle.gpl_play.specs.declared.take.Stop.{Stop}
@@ -16,9 +16,9 @@ pub record Takes (before after : Option (List ℕ)) (trace : Trace) : Type 0 whe
   pub ended : IsAtEnd after
   pub lawful : LawfulTrace trace
 
--- what was left is a listing of these words, and all of it was read
+-- what was left is a listing that is assembled to these words, and all of it was read
 pub record TakesWords (before after : Option (List ℕ)) (words : List ℕ) : Type 0 where
-  pub all : IfSome before (λ bytes. IsListing bytes words)
+  pub all : IfSome before (λ bytes. assembled bytes ≡ Ok words)
   pub ended : IsAtEnd after
 
 module _ {F : Type 0} where

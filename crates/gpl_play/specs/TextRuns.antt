@@ -43,9 +43,10 @@ abbrev pub IsSound : TextCall → List ℕ → Type 0
 IsSound Listings bytes = (trace : Trace) × IsTraceOf bytes trace
 IsSound Assembly bytes = (words : List ℕ) × IsListing bytes words × (are_words words ≡ true)
 
--- this text is due to what was left, and all of it was read
+-- this text is due to what was left, which has no fault, and all of it was read
 pub record TakesText (call : TextCall) (before after : Option (List ℕ)) (text : List ℕ) : Type 0 where
   pub all : IfSome before (λ bytes. IsDue call bytes text)
+  pub faultless : IfSome before (λ bytes. (fault : TextRunFault) → HasTextFault call bytes fault → ⊥)
   pub ended : IsAtEnd after
 
 -- ---- by the call that the words are a form of
