@@ -1,12 +1,13 @@
 -- What was read is what was left to be read, where it is a trace or a listing, and else it has the same fault.
-use Rattle.std.proofs.Common.{◌≡◌, ℕ, ◌+◌, ◌<◌, ◌≤◌, List, ◌++◌, length, refl, ap, sym, ◌∙◌, subst, arith, append-nil, ◌⊎◌, inl, inr, Option, None, Some}
+use Rattle.std.proofs.Common.{◌≡◌, ℕ, ◌+◌, ◌<◌, ◌≤◌, List, ◌++◌, length, refl, ap, sym, ◌∙◌, subst, arith, append-nil, Bool, true, false, ◌⊎◌, inl, inr, Option, None, Some}
 use Rattle.std.proofs.lemmas.List.{length-append}
-use Rattle.std.specs.Prelude.{IfSome, Result, Ok, Err}
+use Rattle.std.specs.Prelude.{IfSome, MatchBool, if◌then◌else◌, Result, Ok, Err}
 use Rattle.std.specs.Io.KnownBytes.{Consumes, IsAtEnd}
 use Rattle.limits.specs.declared.TheConstants.{TRACE_BYTES}
 use Rattle.listing_model.specs.declared.fault.TextFault.{TextFault}
 use Rattle.listing_model.specs.declared.fault.TextCause.TheVariants as text
-use Rattle.listing_model.specs.Assembly.{assembled}
+use Rattle.basics.specs.Answer.{FaultUnlessMemory}
+use Rattle.listing_model.specs.Assembly.{assembled, lacks_memory}
 use Rattle.spv_text.proofs.Assembling as listing
 use Rattle.trace_model.specs.declared.line_fault.TraceFault.{TraceFault}
 use Rattle.trace_model.specs.declared.line_fault.Cause.TheVariants.{TooLong}
@@ -16,7 +17,8 @@ use Rattle.trace_model.proofs.ReadingLaws.{verdict_of, is-reading, reading-is, t
 use Rattle.trace_model.proofs.LawfulTraces.{trace-is_lawful}
 use Rattle.gpl_play.specs.Listings.{HasListingFault}
 use Rattle.gpl_play.specs.Reads.{Reads, EndsReading}
-use Rattle.gpl_play.specs.Takes.{Takes, TakesWords, TakesFault}
+use Rattle.gpl_play.specs.Takes.{HasFailed, Stops, Takes, TakesWords, TakesFault, listing_stop}
+use Rattle.gpl_play.specs.declared.take.Stop.TheVariants.{Failed, Memory, Refused}
 
 -- ---- what was left
 
@@ -104,3 +106,20 @@ pub listing_fault_taken : (before after : Option (List ℕ)) (bytes : List ℕ) 
     → TakesFault HasListingFault before after fault
 listing_fault_taken before after bytes fault reads h =
     record { all = fault_kept assembled last_fault long_listing before after bytes fault reads.consumed reads.ended h; read = (bytes, reads) }
+
+by_memory : (lacks : Bool) (before after : Option (List ℕ)) (bytes : List ℕ) (fault : TextFault) → Reads before after bytes → MatchBool lacks (Unit {0}) (assembled bytes ≡ Err fault)
+    → Stops HasListingFault before after (if lacks then Memory else Refused fault)
+by_memory true before after bytes fault reads h = tt
+by_memory false before after bytes fault reads h = listing_fault_taken before after bytes fault reads h
+
+pub listing_stopped : (before after : Option (List ℕ)) (bytes : List ℕ) (fault : TextFault) → Reads before after bytes
+    → FaultUnlessMemory lacks_memory (λ f. assembled bytes ≡ Err f) fault → Stops HasListingFault before after (listing_stop fault)
+listing_stopped before after bytes fault reads h = by_memory (lacks_memory fault) before after bytes fault reads h
+
+not_by_memory : (lacks : Bool) (fault : TextFault) → (if lacks then Memory else Refused fault) ≡ Failed → ⊥
+not_by_memory true fault is = cc
+not_by_memory false fault is = cc
+
+-- that is no failed read
+pub listing_not_failed : {A : Type 0} (fault : TextFault) → HasFailed {A = A} (Err (listing_stop fault)) → ⊥
+listing_not_failed fault is = not_by_memory (lacks_memory fault) fault (cc is)

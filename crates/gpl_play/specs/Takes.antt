@@ -1,10 +1,11 @@
 -- What taking a trace or a listing from a source gives.
-use Rattle.std.specs.Prelude.{◌≡◌, ℕ, List, Option, None, Some, IfSome, Result, Ok, Err}
+use Rattle.std.specs.Prelude.{◌≡◌, ℕ, if◌then◌else◌, List, Option, None, Some, IfSome, Result, Ok, Err}
 use Rattle.std.specs.Io.KnownBytes.{IsAtEnd}
 use Rattle.trace_model.specs.declared.whole.Trace.{Trace}
 use Rattle.trace_model.specs.LawfulPlay.{LawfulTrace}
 use Rattle.trace_model.specs.Reading.{IsTraceOf}
-use Rattle.listing_model.specs.Assembly.{assembled}
+use Rattle.listing_model.specs.declared.fault.TextFault.{TextFault}
+use Rattle.listing_model.specs.Assembly.{assembled, lacks_memory}
 use Rattle.gpl_play.specs.Reads.{ReadsSome}
 use Rattle.gpl_play.specs.declared.status.TheConstants.{REFUSED, READ_FAILED, NO_MEMORY}
 use Rattle.gpl_play.specs.declared.take.Stop.{Stop}
@@ -48,3 +49,7 @@ module _ {F : Type 0} where
   stop_fault (Refused fault) = Some fault
   stop_fault Failed = None
   stop_fault Memory = None
+
+-- the same of the fault that assembling has
+abbrev pub listing_stop : TextFault → Stop TextFault
+listing_stop fault = if lacks_memory fault then Memory else Refused fault

@@ -2,7 +2,7 @@
 ghost use Rattle.std.specs.Prelude.{◌≡◌, IfOk, IfErr};
 ghost use Rattle.std.specs.Io.KnownBytes.{IsAtEnd};
 ghost use Rattle.basics.specs.Count.{Rose};
-ghost use Rattle.gpl_play.specs.Takes.{Takes, TakesWords, Stops, HasFailed};
+ghost use Rattle.gpl_play.specs.Takes.{Takes, TakesWords, Stops, HasFailed, listing_stop};
 ghost use Rattle.trace_model.specs.Reading.{HasTraceFault};
 ghost use Rattle.gpl_play.specs.Listings.{HasListingFault};
 
@@ -59,12 +59,16 @@ pub fn take_words<S: Source>(alloc: Global, source: &mut S) -> Result<Vec<u32>, 
     };
     match assemble(alloc, bytes.as_slice()) {
         Ok(words) => Ok(words),
-        Err(
-            TextFault {
-                cause: TextCause::Memory,
-                ..
-            },
-        ) => Err(Stop::Memory),
-        Err(fault) => Err(Stop::Refused(fault)),
+        Err(fault) => Err(listing_stop(fault)),
+    }
+}
+
+/// Why no listing was taken, where assembling has this fault.
+fn listing_stop(fault: TextFault) -> Stop<TextFault>
+    ensures { result ≡ listing_stop fault }
+{
+    match fault.cause {
+        TextCause::Memory => Stop::Memory,
+        _ => Stop::Refused(fault),
     }
 }

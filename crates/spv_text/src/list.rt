@@ -3,7 +3,7 @@ ghost use Rattle.std.specs.List.{All};
 ghost use Rattle.spirv_model.specs.Module.{module_of, IsWritable};
 ghost use Rattle.listing_model.specs.Assembly.{listed_text};
 ghost use Rattle.listing_model.specs.Listing as spec;
-ghost use Rattle.listing_model.specs.ModuleTexts as modules;
+ghost use Rattle.listing_model.specs.ModuleTexts as several;
 ghost use Rattle.spv_text.specs.Answers.{GivesText};
 ghost use Rattle.spv_text.specs.Pieces.{AllFit};
 
@@ -31,7 +31,7 @@ pub fn list_text(alloc: Global, words: &[u32]) -> Result<Vec<u8>, ListFault>
 pub fn modules_text(alloc: Global, modules: &[Words]) -> Result<Vec<u8>, AllocError>
     requires writable { All IsWritable modules.now }
     requires few { length modules.now < 2 ^ 32 }
-    ensures { IfOk result (λ text. text.items ≡ modules.modules_text modules.now) }
+    ensures { IfOk result (λ text. text.items ≡ several.modules_text modules.now) }
 {
     let mut text = Vec::new(alloc);
     let mut number = 0;
@@ -48,7 +48,7 @@ pub fn modules_text(alloc: Global, modules: &[Words]) -> Result<Vec<u8>, AllocEr
 fn push_module(text: &mut Vec<u8>, number: u32, module: &Words) -> Result<(), AllocError>
     requires { IsWritable «module».now }
     ensures { OnOk result
-        (text.new.items ≡ text.old.items ++ modules.module_text (number, «module».now)) }
+        (text.new.items ≡ text.old.items ++ several.module_text (number, «module».now)) }
 {
     text.extend_from_slice(b"code ")?;
     push_decimal(text, number)?;
