@@ -17,10 +17,10 @@ mod write;
 
 pub use outcome::{Outcome, Report};
 pub use player::run;
+pub use spv_text::{TextCause, TextFault};
 pub use still::run_still;
 pub use text::{TextOutcome, TextRunFault, text_fault_line, text_run};
 pub use trace_model::Serve;
-pub use spv_text::{TextCause, TextFault};
 pub use trace_model::line_fault::{Cause, TraceFault};
 
 #[cfg(test)]

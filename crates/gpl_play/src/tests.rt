@@ -246,7 +246,15 @@ fn faults<R: Threads + Wait + Sync>(
 ) -> Result<Faults, AllocError> {
     let mut sink = sink(alloc, 4096, Vec::new(alloc))?;
     let mut source = FirmSource::new(bytes.to_vec(alloc)?);
-    let play = run(rt, alloc, &one(alloc, "play")?, &mut source, &mut sink, &NoGate).fault;
+    let play = run(
+        rt,
+        alloc,
+        &one(alloc, "play")?,
+        &mut source,
+        &mut sink,
+        &NoGate,
+    )
+    .fault;
     let mut source = FirmSource::new(bytes.to_vec(alloc)?);
     let check = run_still(alloc, &one(alloc, "check")?, &mut source, &mut sink).fault;
     let mut source = FirmSource::new(bytes.to_vec(alloc)?);
@@ -269,8 +277,16 @@ fn one(alloc: Global, word: &str) -> Result<Vec<String>, AllocError> {
 fn refuses_what_is_no_listing(rt: HostRuntime) -> Result<(), Fail> {
     for (bytes, line, cause) in [
         (b"".as_slice(), 1, TextCause::NoHead),
-        (b"spvt 1 9\nOpReturn 0\n".as_slice(), 2, TextCause::BadOperands),
-        (b"spvt 1 9\nOpReturn\nOpNop\n".as_slice(), 3, TextCause::NoName),
+        (
+            b"spvt 1 9\nOpReturn 0\n".as_slice(),
+            2,
+            TextCause::BadOperands,
+        ),
+        (
+            b"spvt 1 9\nOpReturn\nOpNop\n".as_slice(),
+            3,
+            TextCause::NoName,
+        ),
     ] {
         let mut source = FirmSource::new(bytes.to_vec(rt.alloc())?);
         let mut sink = sink(rt.alloc(), 4096, Vec::new(rt.alloc()))?;
