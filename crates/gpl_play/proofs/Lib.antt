@@ -1,7 +1,11 @@
 pub mod DrawSteps
+pub mod Dues
+pub mod Endings
 pub mod LinkLaws
 pub mod Outcomes
 pub mod PipeLinks
 pub mod PlayLaws
 pub mod PlaySteps
 pub mod Streams
+pub mod TextCalls
+pub mod Words

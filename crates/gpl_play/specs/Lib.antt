@@ -1,7 +1,9 @@
 pub mod Links
+pub mod Listings
 pub mod Plays
 pub mod Reads
 pub mod Runs
 pub mod Steps
 pub mod Takes
+pub mod TextRuns
 pub mod Writes

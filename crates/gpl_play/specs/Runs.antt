@@ -2,7 +2,6 @@
 use Rattle.std.specs.Prelude.{◌≡◌, ◌⊎◌, ℕ, List, [], ◌∷◌, codes, Option, IfSome}
 use Rattle.std.specs.Io.KnownBytes.{Appends}
 use Rattle.basics.specs.Count.{Rose}
-use Rattle.trace_model.specs.declared.line_fault.TraceFault.{TraceFault}
 use Rattle.trace_model.specs.declared.whole.Trace.{Trace}
 use Rattle.trace_model.specs.PlayText.{play_text, links_text, check_text}
 use Rattle.trace_model.specs.Reading.{IsTraceOf, HasTraceFault}
@@ -61,14 +60,27 @@ WritesDueFront IsDue left before after = IfSome left (λ bytes. (text : List ℕ
 
 -- ---- statuses
 
+module _ {F : Type 0} where
+  -- what was left to be read has a fault
+  abbrev pub IsFaulty : (List ℕ → F → Type 0) → Option (List ℕ) → Type 0
+  IsFaulty HasFault left = IfSome left (λ bytes. (fault : F) × HasFault bytes fault)
+
+  -- bytes with a fault are refused
+  abbrev pub IsRefusedIfFaulty : (List ℕ → F → Type 0) → ℕ → List ℕ → Type 0
+  IsRefusedIfFaulty HasFault status bytes = (fault : F) → HasFault bytes fault → EndsUnlessMemory REFUSED status
+
+-- sound bytes are served
+abbrev pub IsDoneIfSound : (List ℕ → Type 0) → ℕ → List ℕ → Type 0
+IsDoneIfSound IsSound status bytes = IsSound bytes → EndsUnlessMemory DONE status
+
 -- what was left to be read is no trace
 abbrev pub IsNoTrace : Option (List ℕ) → Type 0
-IsNoTrace left = IfSome left (λ bytes. (fault : TraceFault) × HasTraceFault bytes fault)
+IsNoTrace left = IsFaulty HasTraceFault left
 
 -- bytes that are no trace are refused
 abbrev pub IsRefusedIfNoTrace : ℕ → List ℕ → Type 0
-IsRefusedIfNoTrace status bytes = (fault : TraceFault) → HasTraceFault bytes fault → EndsUnlessMemory REFUSED status
+IsRefusedIfNoTrace status bytes = IsRefusedIfFaulty HasTraceFault status bytes
 
 -- a trace is played
 abbrev pub IsPlayedIfTrace : ℕ → List ℕ → Type 0
-IsPlayedIfTrace status bytes = (trace : Trace) → IsTraceOf bytes trace → EndsUnlessMemory DONE status
+IsPlayedIfTrace status bytes = IsDoneIfSound (λ bytes. (trace : Trace) × IsTraceOf bytes trace) status bytes

@@ -39,7 +39,7 @@ fn refused(fault: TraceFault) -> Outcome
 }
 
 /// The end where no trace was taken.
-pub fn stopped(stop: Stop) -> Outcome
+pub fn stopped(stop: Stop<TraceFault>) -> Outcome
     ensures status { result.status ≡ stop_status stop }
     ensures fault { result.fault ≡ stop_fault stop }
     ensures report { IsNone result.report }
@@ -51,21 +51,17 @@ pub fn stopped(stop: Stop) -> Outcome
     }
 }
 
-/// The end of a call with this text.
-pub fn told<K: Sink>(sink: &mut K, text: &[u8]) -> Outcome
-    ensures statuses { (result.status ≡ DONE) ⊎ (result.status ≡ WRITE_FAILED) }
-    ensures fault { IsNone result.fault }
-    ensures report { IsNone result.report }
-    ensures done { result.status ≡ DONE
-        → Appends (K.held sink.old) (K.held sink.new) text.now }
-    ensures unraised { result.status ≡ DONE → K.faults sink.new ≡ K.faults sink.old }
-    ensures front { result.status ≡ WRITE_FAILED
+/// The status of a call that ends with this text.
+pub fn told<K: Sink>(sink: &mut K, text: &[u8]) -> u8
+    ensures statuses { (result ≡ DONE) ⊎ (result ≡ WRITE_FAILED) }
+    ensures done { result ≡ DONE → Appends (K.held sink.old) (K.held sink.new) text.now }
+    ensures unraised { result ≡ DONE → K.faults sink.new ≡ K.faults sink.old }
+    ensures front { result ≡ WRITE_FAILED
         → WritesFront (K.held sink.old) (K.held sink.new) text.now }
-    ensures failed { result.status ≡ WRITE_FAILED
-        → Rose (K.faults sink.old) (K.faults sink.new) }
+    ensures failed { result ≡ WRITE_FAILED → Rose (K.faults sink.old) (K.faults sink.new) }
 {
     match write_all(sink, text) {
-        Ok(()) => ended(DONE),
-        Err(_) => ended(WRITE_FAILED),
+        Ok(()) => DONE,
+        Err(_) => WRITE_FAILED,
     }
 }

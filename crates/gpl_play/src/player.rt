@@ -80,7 +80,7 @@ pub fn run<R: Threads + Wait + Sync, S: Source, K: Sink, G: Gate>(
     }
     match take_trace(alloc, source) {
         Ok(trace) => match text_of_play(alloc, trace) {
-            Ok(text) => told(sink, text.as_slice()),
+            Ok(text) => ended(told(sink, text.as_slice())),
             Err(_) => ended(NO_MEMORY),
         },
         Err(stop) => stopped(stop),

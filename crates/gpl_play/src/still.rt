@@ -81,7 +81,7 @@ pub fn run_still<S: Source, K: Sink>(
     };
     match take_trace(alloc, source) {
         Ok(trace) => match text_of(alloc, call, trace) {
-            Ok(text) => told(sink, text.as_slice()),
+            Ok(text) => ended(told(sink, text.as_slice())),
             Err(_) => ended(NO_MEMORY),
         },
         Err(stop) => stopped(stop),

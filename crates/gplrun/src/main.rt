@@ -1,16 +1,21 @@
-//! The program: reads a trace on standard input, and writes what is asked of it to standard output.
+//! The program: reads a trace or a listing on standard input, and writes what is asked of it to standard output.
 #![tactic(auto)]
 
-use gpl_edge::{NoGate, StdSink, StdSource};
-use gpl_play::{Outcome, run, run_still, status};
-use std::alloc::Global;
+use gpl_edge::{NoGate, Sink, Source, StdSink, StdSource};
+use gpl_play::{run, run_still, status, text_fault_line, text_run};
+use std::alloc::{AllocError, Global};
 use std::io::Write;
 use std::process::ExitCode;
+use std::sync::Wait;
+use std::thread::Threads;
 use std::{env, io};
 use trace_text::{fault_line, memory_line, read_line, usage_line, write_line};
 
 /// The forms of words, below the line that says that there was none.
-const FORMS: &[u8] = b"gplrun play|check|links < TRACE\n";
+const FORMS: &[u8] = b"gplrun play|check|links|text < TRACE\ngplrun assemble < LISTING\n";
+
+/// How a call ended: its status, and the line that says what is wrong with the bytes.
+type Ended = (u8, Option<Result<Vec<u8>, AllocError>>);
 
 fn main(rt: HostRuntime) -> ExitCode {
     let Ok(words) = words(&rt, rt.alloc()) else {
@@ -19,13 +24,9 @@ fn main(rt: HostRuntime) -> ExitCode {
     };
     let mut source = StdSource::new(rt.stdin());
     let mut sink = StdSink::new(rt.stdout());
-    let outcome = if is_still(&words) {
-        run_still(rt.alloc(), &words, &mut source, &mut sink)
-    } else {
-        run(&rt, rt.alloc(), &words, &mut source, &mut sink, &NoGate)
-    };
-    let _ = report(&rt, &outcome);
-    ExitCode::from(outcome.status)
+    let (status, fault) = called(&rt, rt.alloc(), &words, &mut source, &mut sink);
+    let _ = report(&rt, status, fault);
+    ExitCode::from(status)
 }
 
 /// The program's words without its name.
@@ -37,24 +38,55 @@ fn words(rt: &HostRuntime, alloc: Global) -> io::Result<Vec<String>> {
     Ok(words)
 }
 
-/// Whether the first word is that of a call that no other thread takes part in.
-fn is_still(words: &Vec<String>) -> bool {
-    match words.as_slice() {
-        [first, ..] => first.as_str() == "check" || first.as_str() == "links",
-        [] => false,
-    }
+/// Whether the first word is that of a call between modules and text.
+fn is_text(first: &str) -> bool {
+    first == "text" || first == "assemble"
 }
 
-/// Says on standard error what kept a run from its end.
-fn report(rt: &HostRuntime, outcome: &Outcome) -> io::Result<()> {
-    let mut stderr = rt.stderr();
-    if let Some(fault) = &outcome.fault {
-        let Ok(line) = fault_line(rt.alloc(), fault) else {
-            return stderr.write_all(memory_line());
-        };
-        return stderr.write_all(line.as_slice());
+/// Whether the first word is that of a call that no other thread takes part in.
+fn is_still(first: &str) -> bool {
+    first == "check" || first == "links"
+}
+
+/// Makes the call that the first word names.
+fn called<R: Threads + Wait + Sync, S: Source, K: Sink>(
+    rt: &R,
+    alloc: Global,
+    words: &Vec<String>,
+    source: &mut S,
+    sink: &mut K,
+) -> Ended {
+    let first = match words.as_slice() {
+        [first, ..] => first.as_str(),
+        [] => "",
+    };
+    if is_text(first) {
+        let outcome = text_run(alloc, words, source, sink);
+        let fault = outcome.fault.map(|it| text_fault_line(alloc, &it));
+        return (outcome.status, fault);
     }
-    match outcome.status {
+    let outcome = if is_still(first) {
+        run_still(alloc, words, source, sink)
+    } else {
+        run(rt, alloc, words, source, sink, &NoGate)
+    };
+    let fault = outcome.fault.map(|it| fault_line(alloc, &it));
+    (outcome.status, fault)
+}
+
+/// Says on standard error what kept a call from its end.
+fn report(
+    rt: &HostRuntime,
+    status: u8,
+    fault: Option<Result<Vec<u8>, AllocError>>,
+) -> io::Result<()> {
+    let mut stderr = rt.stderr();
+    match fault {
+        Some(Ok(line)) => return stderr.write_all(line.as_slice()),
+        Some(Err(_)) => return stderr.write_all(memory_line()),
+        None => {}
+    }
+    match status {
         status::USAGE => {
             stderr.write_all(usage_line())?;
             stderr.write_all(FORMS)

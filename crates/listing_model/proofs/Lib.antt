@@ -8,4 +8,5 @@ pub mod Modules
 mod Names
 mod Numbers
 mod Samples
+mod SeveralModules
 mod Texts

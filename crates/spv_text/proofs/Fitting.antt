@@ -9,7 +9,7 @@ use Rattle.spirv_model.specs.Operands.{kinds}
 use Rattle.spirv_model.specs.Module.{fits_table, module_of}
 use Rattle.spirv_model.proofs.ReadModules.{read_writable}
 
-all_from : (insts : List Inst) → list_all fits_table insts ≡ true → All (λ inst. IsSome (kinds inst)) insts
+pub all_from : (insts : List Inst) → list_all fits_table insts ≡ true → All (λ inst. IsSome (kinds inst)) insts
 all_from [] h k d lt = absurd (omega (arith, lt))
 all_from (inst ∷ insts) h zero d lt = first_of_both (fits_table inst) (list_all fits_table insts) h
 all_from (inst ∷ insts) h (suc k) d lt = all_from insts (second_of_both (fits_table inst) (list_all fits_table insts) h) k d (omega (arith, lt))

@@ -14,6 +14,7 @@ pub mod ReadingLaws
 pub mod SeveralFields
 pub mod SpecIdLaws
 pub mod TraceLimits
+pub mod WorkedCodes
 pub mod WorkedFaults
 pub mod WorkedLines
 pub mod WorkedPlays

@@ -1,3 +1,4 @@
+pub mod CodeText
 pub mod FaultText
 pub mod Fields
 pub mod LawfulPlay

@@ -1,6 +1,8 @@
 //! Numbers as they are printed.
 ghost use Rattle.std.specs.Prelude.{◌≡◌, ◌<◌, ◌++◌, OnOk};
 ghost use Rattle.std.specs.Fmt.{decimal};
+ghost use Rattle.std.specs.List.{flat_map};
+ghost use Rattle.trace_model.specs.CodeText.{word_field};
 ghost use Rattle.trace_model.specs.Text.{word_text, hex_digit};
 ghost use Rattle.trace_text.specs.Printed.{field_text};
 
@@ -48,6 +50,17 @@ pub fn push_word(text: &mut Vec<u8>, word: u32) -> Result<(), AllocError>
         hex_digit(word % 16),
     ];
     text.extend_from_slice(&digits)
+}
+
+/// Pushes words as fields behind another.
+pub fn push_words(text: &mut Vec<u8>, words: &[u32]) -> Result<(), AllocError>
+    ensures { OnOk result (text.new.items ≡ text.old.items ++ flat_map word_field words.now) }
+{
+    for word in words {
+        text.push(b' ')?;
+        push_word(text, *word)?;
+    }
+    Ok(())
 }
 
 /// The character of a hexadecimal digit.

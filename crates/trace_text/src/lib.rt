@@ -20,6 +20,7 @@ mod number;
 mod numbers;
 mod parts;
 mod places;
+mod print_code;
 mod print_modules;
 mod print_rules;
 mod print_targets;
@@ -29,6 +30,7 @@ mod setup_lines;
 mod taking;
 
 pub use fault_lines::{fault_line, memory_line, read_line, usage_line, write_line};
+pub use print_code::code_text;
 pub use print_modules::check_text;
 pub use print_rules::{links_text, play_text};
 pub use reading::{ReadFault, read_trace};

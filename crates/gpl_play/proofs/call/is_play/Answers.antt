@@ -1,13 +1,8 @@
-use Rattle.std.proofs.Common.{◌≡◌, ℕ, ◌<◌, ◌≤◌, List, [], ◌∷◌, length, map, get_or, ap, sym, ◌∙◌, arith}
+use Rattle.std.proofs.Common.{◌≡◌, ℕ, List, [], ◌∷◌, map, ap, sym, ◌∙◌}
 use Rattle.std.specs.Prelude.{codes, string_bytes}
 use Rattle.std.proofs.lemmas.Slice.Eq.{bytes_eq-Decides}
+use Rattle.gpl_play.proofs.Words.{one}
 use Rattle.gpl_play.proofs.call.is_play.Goals as goal
-
--- a list of one element, each of them seen as a text
-one : {X : Type 0} (f : X → List ℕ) (xs : List X) (x : X) → 1 ≤ length xs → length xs < 2 → x ≡ get_or xs 0 x → map f xs ≡ f x ∷ []
-one f [] x low high is = absurd (omega arith)
-one f (y ∷ []) x low high is = ap (λ z. f z ∷ []) (sym is)
-one f (y ∷ z ∷ zs) x low high is = absurd (omega arith)
 
 pub returns-in-len1 : goal.returns-in-len1
 returns-in-len1 c =
