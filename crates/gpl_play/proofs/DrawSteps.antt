@@ -1,9 +1,8 @@
 -- One draw more: what it leaves, where its pipe links and where a rule refuses it.
-use Rattle.std.proofs.Common.{◌≡◌, ℕ, zero, suc, ◌+◌, List, [], ◌∷◌, ◌++◌, length, refl, ap, sym, ◌∙◌, arith, Option, None, Some}
+use Rattle.std.proofs.Common.{◌≡◌, ℕ, ◌+◌, List, [], ◌∷◌, ◌++◌, length, refl, ap, sym, ◌∙◌, arith, Option, None, Some}
 use Rattle.std.proofs.lemmas.List.Elements.{filter_map-append}
 use Rattle.std.proofs.lemmas.List.Sums.{fold-append}
-use Rattle.std.specs.List.{fold, filter_map, enumerate_from}
-use Rattle.std.specs.Option.{option_map, option_map_or}
+use Rattle.std.specs.List.{filter_map, enumerate_from}
 use Rattle.std.specs.Prelude.{false}
 use Rattle.state_model.specs.declared.parts.State.{State}
 use Rattle.state_model.specs.declared.rule.Rule.{Rule}
@@ -20,7 +19,7 @@ use Rattle.gpl_play.specs.Plays.{AreLeftBy}
 abbrev pub unless_failed : Option Rule → Option State → Option State
 unless_failed failed made = elim failed [ Some rule ↦ None | None ↦ made ]
 
-pub refused_state : (libs : Libraries) (rule : Rule) → failed_rule libs false ≡ Some rule → state_if_linked libs ≡ None
+refused_state : (libs : Libraries) (rule : Rule) → failed_rule libs false ≡ Some rule → state_if_linked libs ≡ None
 unfolding state_if_linked
 refused_state libs rule h = ap (λ (failed : Option Rule). unless_failed failed (linked_state libs)) h
 

@@ -44,17 +44,21 @@ with_shaders given prerast fragment = record {
   output = filter_map output_in given;
 }
 
-pub same_libraries : (trace : Trace) (modules : List Words) (given : List Library) → trace.modules ≡ modules → libraries_by_subset trace given ≡ libraries_given modules given
+same_libraries : (trace : Trace) (modules : List Words) (given : List Library) → trace.modules ≡ modules → libraries_by_subset trace given ≡ libraries_given modules given
 same_libraries trace modules given h =
     ap (λ (f : Library → Option PrerastLibrary). with_shaders given f (fragment_in trace)) (fun_ext (prerast_same trace modules h))
     ∙ ap (λ (f : Library → Option FragmentLibrary). with_shaders given (prerast_in (with_modules modules)) f) (fun_ext (fragment_same trace modules h))
 
 -- ---- one library more
 
-pub one_library_more : (modules : List Words) (given : List Library) (more : Library) → libraries_given modules (given ++ more ∷ []) ≡ with_library modules (libraries_given modules given) more
+one_library_more : (modules : List Words) (given : List Library) (more : Library) → libraries_given modules (given ++ more ∷ []) ≡ with_library modules (libraries_given modules given) more
 one_library_more modules given more =
-    rw (filter_map-append vertex_in given (more ∷ []), filter_map-append (prerast_in (with_modules modules)) given (more ∷ []),
-    filter_map-append (fragment_in (with_modules modules)) given (more ∷ []), filter_map-append output_in given (more ∷ [])) refl
+    rw (
+      filter_map-append vertex_in given (more ∷ []),
+      filter_map-append (prerast_in (with_modules modules)) given (more ∷ []),
+      filter_map-append (fragment_in (with_modules modules)) given (more ∷ []),
+      filter_map-append output_in given (more ∷ []),
+    ) refl
 
 -- ---- lists
 
@@ -106,14 +110,6 @@ one_lawful modules (library.Output part) is = record {
   prerast = All-nil (λ (p : PrerastLibrary). IsPrerastPart p.part);
   fragment = All-nil (λ (f : FragmentLibrary). IsFragmentPart f.part);
   output = All-cons IsOutputPart part [] is (All-nil IsOutputPart);
-}
-
-pub none_lawful : (modules : List Words) → HoldsLawfulParts (libraries_given modules [])
-none_lawful modules = record {
-  vertex = All-nil IsVertexPart;
-  prerast = All-nil (λ (p : PrerastLibrary). IsPrerastPart p.part);
-  fragment = All-nil (λ (f : FragmentLibrary). IsFragmentPart f.part);
-  output = All-nil IsOutputPart;
 }
 
 pub lawful_more : (modules : List Words) (libs : Libraries) (library : Library) → IsLibrary modules library → HoldsLawfulParts libs → HoldsLawfulParts (with_library modules libs library)

@@ -1,7 +1,7 @@
 -- Single draws of lawful traces: what they are made from, and what they leave.
-use Rattle.std.proofs.Common.{◌≡◌, ℕ, ◌<◌, List, [], ◌∷◌, ◌++◌, length, refl, ap, sym, ◌∙◌, subst, append-nil, Option, None, Some, Ok}
+use Rattle.std.proofs.Common.{◌≡◌, ℕ, ◌<◌, List, [], ◌∷◌, ◌++◌, length, ap, sym, ◌∙◌, subst, append-nil, Option, None, Some, Ok}
 use Rattle.std.proofs.lemmas.Option.{slice_get_within}
-use Rattle.std.specs.List.{All, fold}
+use Rattle.std.specs.List.{All}
 use Rattle.std.specs.Option.{option_map, option_map_or}
 use Rattle.std.specs.Prelude.{slice_get, false, IfSome}
 use Rattle.spirv_model.specs.declared.execution_model.TheConstants.{FRAGMENT}
@@ -21,7 +21,7 @@ use Rattle.draw_model.specs.WholeDraw.{image}
 use Rattle.trace_model.specs.declared.whole.Trace.{Trace}
 use Rattle.trace_model.specs.LawfulPlay.{NamesModule, counts_of}
 use Rattle.trace_model.specs.Pipes.{pipe_libraries, pipe_state, vertex_insts, fragment_insts}
-use Rattle.trace_model.specs.Playing.{RecordedDraw, first_targets, after_linked, after_draw}
+use Rattle.trace_model.specs.Playing.{RecordedDraw, after_linked}
 use Rattle.trace_model.proofs.LawfulDynamics.{IsDrawn, draws-lawful}
 use Rattle.trace_model.proofs.LawfulPlays.{lawful-may-be-drawn}
 use Rattle.gpl_play.specs.Links.{with_modules}
@@ -93,16 +93,6 @@ same_fragment trace modules state h =
 
 pub vertex_is : (modules : List Words) (state : State) (shader : Words) → slice_get modules (state.prerast).«module» ≡ Some shader → vertex_insts (with_modules modules) state ≡ shader.insts
 vertex_is modules state shader h = ap (λ (o : Option Words). option_map_or (λ (m : Words). m.insts) o []) h
-
-pub fragment_is : (modules : List Words) (state : State) (part : FragmentPart) (shader : Words) → state.fragment ≡ Some part → slice_get modules part.«module» ≡ Some shader
-    → Some shader.insts ≡ fragment_insts (with_modules modules) state
-fragment_is modules state part shader has h =
-    ap (λ (o : Option Words). Some (option_map_or (λ (m : Words). m.insts) o [])) (sym h)
-    ∙ ap (λ (o : Option FragmentPart). option_map (λ (part : FragmentPart). option_map_or (λ (m : Words). m.insts) (slice_get modules part.«module») []) o) (sym has)
-
-pub no_fragment : (modules : List Words) (state : State) → state.fragment ≡ None → None ≡ fragment_insts (with_modules modules) state
-no_fragment modules state has =
-    ap (λ (o : Option FragmentPart). option_map (λ (part : FragmentPart). option_map_or (λ (m : Words). m.insts) (slice_get modules part.«module») []) o) (sym has)
 
 pub drawn_lawful : (trace : Trace) (objects : Drawables) (state : State) (dynamic : Dynamic) (call : DrawCall) (targets : Targets) (vs : List Inst) (fs : Option (List Inst)) → AreOf trace objects
     → vertex_insts (with_modules objects.modules) state ≡ vs → fs ≡ fragment_insts (with_modules objects.modules) state → IsDraw trace state dynamic call targets

@@ -1,9 +1,9 @@
 -- The lines of a play, one after the other.
-use Rattle.std.proofs.Common.{◌≡◌, ℕ, zero, suc, ◌+◌, ◌<◌, ◌≤◌, List, [], ◌∷◌, ◌++◌, length, take, drop, replicate, cond, false, refl, ap, sym, ◌∙◌, subst, arith, append-nil, Option, None, Some}
+use Rattle.std.proofs.Common.{◌≡◌, ℕ, zero, suc, ◌+◌, ◌<◌, List, [], ◌∷◌, ◌++◌, length, take, drop, replicate, cond, false, refl, ap, sym, ◌∙◌, subst, arith, append-nil, Some}
 use Rattle.std.proofs.lemmas.List.{length-append, set-get_or}
 use Rattle.std.proofs.lemmas.List.Sums.{fold-append, sum_by-cons}
-use Rattle.std.specs.List.{All, fold, sum_by}
-use Rattle.std.specs.Prelude.{slice_get, slice_set, slice_index_or}
+use Rattle.std.specs.List.{All, sum_by}
+use Rattle.std.specs.Prelude.{slice_get, slice_set}
 use Rattle.state_model.specs.declared.rule.Rule.{Rule}
 use Rattle.draw_model.specs.declared.command.Dynamic.{Dynamic}
 use Rattle.draw_model.specs.declared.command.DrawCall.{DrawCall}
@@ -21,12 +21,12 @@ use Rattle.gpl_play.proofs.LinkLaws.{middle}
 
 -- ---- lists
 
-pub split_get : {A : Type 0} (xs : List A) (i : ℕ) (x : A) → slice_get xs i ≡ Some x → xs ≡ take i xs ++ x ∷ drop (suc i) xs
+split_get : {A : Type 0} (xs : List A) (i : ℕ) (x : A) → slice_get xs i ≡ Some x → xs ≡ take i xs ++ x ∷ drop (suc i) xs
 split_get [] i x e = cc
 split_get (y ∷ xs) zero x e = let same : y ≡ x = cc e in ap (λ z. z ∷ xs) same
 split_get (y ∷ xs) (suc i) x e = ap (λ ys. y ∷ ys) (split_get xs i x e)
 
-pub take_get : {A : Type 0} (xs : List A) (i : ℕ) (x : A) → slice_get xs i ≡ Some x → take (suc i) xs ≡ take i xs ++ x ∷ []
+take_get : {A : Type 0} (xs : List A) (i : ℕ) (x : A) → slice_get xs i ≡ Some x → take (suc i) xs ≡ take i xs ++ x ∷ []
 take_get [] i x e = cc
 take_get (y ∷ xs) zero x e = let same : y ≡ x = cc e in ap (λ z. z ∷ []) same
 take_get (y ∷ xs) (suc i) x e = ap (λ ys. y ∷ ys) (take_get xs i x e)
@@ -37,7 +37,7 @@ abbrev pub firsts : List Dynamic
 firsts = replicate RECORDERS first_dynamic
 
 -- what the recorders draw with after a line
-pub set_is : (dynamics : List Dynamic) (recorder : ℕ) (step : Step) → slice_set dynamics recorder (after_step (dynamic_at dynamics recorder) step) ≡ recorded_after dynamics (recorder, step)
+set_is : (dynamics : List Dynamic) (recorder : ℕ) (step : Step) → slice_set dynamics recorder (after_step (dynamic_at dynamics recorder) step) ≡ recorded_after dynamics (recorder, step)
 unfolding after_step
 set_is dynamics recorder (Draw pipe call) = set-get_or dynamics recorder first_dynamic
 set_is dynamics recorder (Push at words) = refl
@@ -57,12 +57,6 @@ drawn_with dynamics after recorder step pipe call dynamic set is with_this =
     with_this
     ∙ ap (λ (ds : List Dynamic). dynamic_at ds recorder)
     (set ∙ ap (λ (s : Step). slice_set dynamics recorder (after_step (dynamic_at dynamics recorder) s)) is ∙ draw_sets dynamics recorder pipe call)
-
--- what a recorder draws with, read by another default
-pub dynamic_read : (dynamics : List Dynamic) (place : ℕ) (d : Dynamic) → place < length dynamics → slice_index_or dynamics place d ≡ dynamic_at dynamics place
-dynamic_read [] place d h = absurd (omega (arith, h))
-dynamic_read (x ∷ dynamics) zero d h = refl
-dynamic_read (x ∷ dynamics) (suc place) d h = dynamic_read dynamics place d (omega (arith, h))
 
 -- a line of a lawful trace
 pub step_is : (objects : Drawables) (steps : List (ℕ × Step)) (first : Targets) (none : List (ℕ × Rule)) (i recorder : ℕ) (step : Step) → (play : IsPlayOf objects steps first none)
@@ -133,10 +127,10 @@ pub set_played : (objects : Drawables) (steps : List (ℕ × Step)) (first : Tar
     → HavePlayed objects steps first none (i + 1) (slice_set dynamics recorder (after_step (dynamic_at dynamics recorder) step)) number targets refused
 set_played objects steps first none i recorder step dynamics number targets refused there none_here h = next
     (λ (n : ℕ). HavePlayed objects steps first none n (slice_set dynamics recorder (after_step (dynamic_at dynamics recorder) step)) number targets refused) i (record {
-  set = recorded_more steps i recorder step dynamics there h.set;
-  count = h.count ∙ ap length (same_draws steps i recorder step there none_here);
-  left = λ trace of before. subst (λ (ds : List RecordedDraw). AreLeftBy trace ds targets refused) (same_draws steps i recorder step there none_here) (h.left trace of before);
-})
+      set = recorded_more steps i recorder step dynamics there h.set;
+      count = h.count ∙ ap length (same_draws steps i recorder step there none_here);
+      left = λ trace of before. subst (λ (ds : List RecordedDraw). AreLeftBy trace ds targets refused) (same_draws steps i recorder step there none_here) (h.left trace of before);
+    })
 
 length_one : {A : Type 0} (xs : List A) (x : A) → length xs + 1 ≡ length (xs ++ x ∷ [])
 length_one xs x = omega (arith, length-append xs (x ∷ []))

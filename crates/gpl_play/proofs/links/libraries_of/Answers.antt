@@ -1,11 +1,10 @@
-use Rattle.std.proofs.Common.{◌≡◌, ℕ, ◌≤◌, List, length, take, sym, ap, ◌∙◌, subst, arith, Option, Some}
+use Rattle.std.proofs.Common.{◌≡◌, ℕ, ◌≤◌, List, length, sym, ap, ◌∙◌, subst, arith}
 use Rattle.std.specs.List.{filter_map}
 use Rattle.std.specs.Option.{option_copied}
 use Rattle.std.specs.Prelude.{slice_get, slice_index}
 use Rattle.std.proofs.lemmas.List.{take_all}
 use Rattle.link_rules.specs.Libs.{libraries}
 use Rattle.link_rules.specs.Parts.{HoldsLawfulParts}
-use Rattle.trace_model.specs.declared.whole.Library.{Library}
 use Rattle.trace_model.specs.LawfulPlay.{IsLibrary}
 use Rattle.gpl_play.specs.Links.{libraries_given}
 use Rattle.gpl_play.proofs.LinkLaws.{has_get, given_more, given_same, lawful_more}

@@ -12,7 +12,7 @@ loop-pipe-preserved c =
     let l = c.loop-pipe in
     let a = c.args in
     let given = given_at a.modules.now a.libs.now a.pipes.now l.pipe-index c.pipe-item.result c.as_slice.result.now (libraries c.in_ok-given.given) c.loop-pipe-test.true c.pipe-item.is c.as_slice.ensures c.in_ok-given.ensures.libraries in
-    subst (λ (links : List (Result State Rule)). AreLinksUntil a.modules.now a.libs.now a.pipes.now (l.pipe-index + 1) links) (sym c.in_ok-push.ensures.items)
+    subst (λ (links : List (Result State Rule)). AreLinksUntil a.modules.now a.libs.now a.pipes.now (l.pipe-index + 1) links) (sym {A = List (Result State Rule)} c.in_ok-push.ensures.items)
     (links_more a.modules.now a.libs.now a.pipes.now l.pipe-index l.links.items c.state_of.result l.invariant
     (subst (λ (libs : Libraries). IsLinkOf libs c.state_of.result) given c.state_of.ensures))
 

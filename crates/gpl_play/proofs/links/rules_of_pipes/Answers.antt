@@ -1,4 +1,4 @@
-use Rattle.std.proofs.Common.{◌≡◌, ℕ, List, [], ◌∷◌, ◌++◌, length, ap, ◌∙◌, arith, true, false, Option}
+use Rattle.std.proofs.Common.{◌≡◌, ℕ, [], ◌∷◌, ◌++◌, length, ap, ◌∙◌, arith, false, Option}
 use Rattle.state_model.specs.declared.rule.Rule.{Rule}
 use Rattle.state_model.specs.Link.{failed_rule}
 use Rattle.link_rules.specs.Libs.{libraries}

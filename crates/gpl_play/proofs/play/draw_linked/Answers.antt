@@ -1,4 +1,4 @@
-use Rattle.std.proofs.Common.{◌≡◌, ℕ, ◌<◌, length, sym, ap, subst, arith}
+use Rattle.std.proofs.Common.{ℕ, ◌<◌, length, sym, ap, subst}
 use Rattle.std.specs.Prelude.{IfSome}
 use Rattle.int_device.specs.Modules.{insts_of}
 use Rattle.gpl_play.specs.Plays.{Drawables, AreOf, drawn_by}

@@ -1,4 +1,4 @@
-use Rattle.std.proofs.Common.{◌≡◌, ℕ, ◌<◌, length, sym, ap, ◌∙◌, subst, Some}
+use Rattle.std.proofs.Common.{◌<◌, length, sym, ap, ◌∙◌, subst, Some}
 use Rattle.std.specs.Prelude.{slice_get}
 use Rattle.gpl_play.specs.Plays.{Drawables, drawn_by}
 use Rattle.gpl_play.proofs.PlayLaws.{linked_left, refused_left, pipe_within, drawable}
@@ -12,12 +12,11 @@ link_at-requires c =
 
 pub draw_linked-requires : goal.draw_linked-requires
 draw_linked-requires c =
-    let a = c.args in
-    (
+    let a = c.args in (
       c.requires.1.trace,
       c.requires.1.of,
       drawable a.objects.now a.number (drawn_by c.requires.0 a.pipe a.dynamic.now a.call.now) a.left.now.targets a.left.now.refused.items c.in-Ok.state c.requires.1
-      (ap (λ (o : Drawables). slice_get o.links a.pipe) (sym c.objects.view_is) ∙ c.link_at.ensures ∙ ap Some c.in-Ok.is),
+          (ap (λ (o : Drawables). slice_get o.links a.pipe) (sym c.objects.view_is) ∙ c.link_at.ensures ∙ ap Some c.in-Ok.is),
     )
 
 pub returns-in_ok-draw_linked-in-Ok : goal.returns-in_ok-draw_linked-in-Ok

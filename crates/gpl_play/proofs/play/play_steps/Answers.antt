@@ -1,4 +1,4 @@
-use Rattle.std.proofs.Common.{◌≡◌, ℕ, ◌+◌, ◌<◌, ◌≤◌, List, length, refl, sym, ap, ◌∙◌, subst, arith, Some}
+use Rattle.std.proofs.Common.{◌≡◌, ℕ, ◌+◌, List, length, refl, sym, ap, ◌∙◌, subst, arith, Some}
 use Rattle.std.specs.Prelude.{slice_set}
 use Rattle.std.proofs.lemmas.Option.{slice_get_read}
 use Rattle.draw_model.specs.declared.command.Dynamic.{Dynamic}
@@ -42,11 +42,10 @@ play_draw-requires c =
     let a = c.args in
     let item = c.loop-recorder-item.result in
     let there = slice_get_read a.steps.now (length a.steps.now) l.recorder-index item refl c.loop-recorder-test.true c.loop-recorder-item.is in
-    let drawn = drawn_with l.dynamics c.take_line.new.dynamics item.0 item.1 c.in-Draw.pipe c.in-Draw.call c.dynamic_of-dynamic.result.now c.take_line.ensures c.in-Draw.is c.dynamic_of-dynamic.ensures in
-    (
+    let drawn = drawn_with l.dynamics c.take_line.new.dynamics item.0 item.1 c.in-Draw.pipe c.in-Draw.call c.dynamic_of-dynamic.result.now c.take_line.ensures c.in-Draw.is c.dynamic_of-dynamic.ensures in (
       item.0,
       draw_of a.objects.now a.steps.now a.left.now.targets a.left.now.refused.items l.recorder-index item.0 c.in-Draw.pipe c.in-Draw.call l.dynamics c.dynamic_of-dynamic.result.now l.number l.left.targets l.left.refused.items
-      (there ∙ ap (λ (step : Step). Some (item.0, step)) c.in-Draw.is) drawn c.requires l.invariant,
+          (there ∙ ap (λ (step : Step). Some (item.0, step)) c.in-Draw.is) drawn c.requires l.invariant,
     )
 
 pub overflow_add-number : goal.overflow_add-number

@@ -1,6 +1,5 @@
-use Rattle.std.proofs.Common.{◌≡◌, List, [], refl, sym, ap, ◌∙◌, subst, Result}
+use Rattle.std.proofs.Common.{List, [], refl, sym, ap, ◌∙◌, subst, Result}
 use Rattle.std.proofs.lemmas.List.Elements.{All-weaker}
-use Rattle.spirv_model.specs.declared.module.Words.{Words}
 use Rattle.state_model.specs.declared.parts.State.{State}
 use Rattle.state_model.specs.declared.rule.Rule.{Rule}
 use Rattle.check_model.specs.Validity.{IsValidList}
@@ -9,7 +8,7 @@ use Rattle.draw_model.specs.declared.framebuffer.Targets.{Targets}
 use Rattle.trace_model.specs.LawfulPlay.{IsModule}
 use Rattle.trace_model.specs.Playing.{final_targets, refused_draws}
 use Rattle.gpl_play.specs.Links.{HasObjects, AreLinks}
-use Rattle.gpl_play.specs.Plays.{Drawables, AreOf, AreLeftBy}
+use Rattle.gpl_play.specs.Plays.{AreOf, AreLeftBy}
 use Rattle.gpl_play.proofs.play.text_of_play.Goals as goal
 
 pub valid_modules-requires : goal.valid_modules-requires
