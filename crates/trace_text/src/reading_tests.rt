@@ -38,7 +38,6 @@ const TRACE: &[u8] = b"\
     bind 0 0 - - - -\n\
     draw 0 0 0 1 0 1\n";
 
-#[test]
 /// A trace of a version with a vertex module in line 2, a fragment module in line 3, and these lines from line 4 on.
 fn text_of(alloc: Global, version: &[u8], lines: &[u8]) -> Result<Vec<u8>, AllocError> {
     let mut text = Vec::new(alloc);
