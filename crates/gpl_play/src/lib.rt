@@ -24,4 +24,10 @@ pub use spv_text::{TextCause, TextFault};
 pub use trace_model::line_fault::{Cause, TraceFault};
 
 #[cfg(test)]
+mod row_tests;
+#[cfg(test)]
+mod samples;
+#[cfg(test)]
+mod target_tests;
+#[cfg(test)]
 mod tests;
