@@ -14,7 +14,9 @@ use trace_text::fault_line;
 pub(crate) type Call = (&'static str, &'static str);
 
 pub(crate) const PLAY: Call = ("play", "gplt 1\n");
+
 pub(crate) const PLAY_SECOND: Call = ("play", "gplt 2\n");
+
 const LINKS: Call = ("links", "gplt 1\n");
 
 /// Whether a call on a trace of two modules and these lines ends well and prints this.
@@ -117,7 +119,8 @@ fn loses_the_fragment_at_the_last_back_edge(rt: HostRuntime) -> Result<(), Fail>
 
 #[test]
 fn reads_zero_where_no_output_feeds_an_input(rt: HostRuntime) -> Result<(), Fail> {
-    let lines = "layout 0 0 - - - -\nvertex 1 points - - - -\nprerast 1 0 0 0 0 0 cw\nfragment 1 1 0 \
+    let lines =
+        "layout 0 0 - - - -\nvertex 1 points - - - -\nprerast 1 0 0 0 0 0 cw\nfragment 1 1 0 \
          0 - -\noutput 1 0 1:1 - u1:1 - - -\npipe 0 1 2 3\ntarget 0 u1 2 1 1 1 ffffffff\nbind \
          0 0 - - - -\ndraw 0 0 0 1 0 1\n";
     let text = "target 0 u1 2 1 1 1\n00000001 ffffffff\n";
@@ -127,7 +130,8 @@ fn reads_zero_where_no_output_feeds_an_input(rt: HostRuntime) -> Result<(), Fail
 
 #[test]
 fn draws_alike_for_attributes_in_any_order(rt: HostRuntime) -> Result<(), Fail> {
-    let lines = "layout 0 0 - - - -\ndata 00000080 00000080 00000005 00000000\nvertex 1 points v:4 - \
+    let lines =
+        "layout 0 0 - - - -\ndata 00000080 00000080 00000005 00000000\nvertex 1 points v:4 - \
          - - 0:0:s4:0 1:0:u1:0\nvertex 1 points v:4 - - - 1:0:u1:0 0:0:s4:0\nprerast 1 0 0 0 \
          0 0 cw\nprerast 1 0 0 0 0 0 cw 9=00000001\nfragment 1 1 0 0 - -\noutput 1 0 1:1 - \
          u1:1 - - -\npipe 0 2 4 5\npipe 1 3 4 5\ntarget 0 u1 2 1 1 1 00000000\ntarget 0 u1 2 \
@@ -190,7 +194,8 @@ fn discards_all_fragments(rt: HostRuntime) -> Result<(), Fail> {
 
 #[test]
 fn draws_with_libraries_that_keep_nothing(rt: HostRuntime) -> Result<(), Fail> {
-    let lines = "layout 0 0 - - - -\nvertex 0 points - - - -\nprerast 1 0 0 0 0 0 cw\nfragment 1 1 0 \
+    let lines =
+        "layout 0 0 - - - -\nvertex 0 points - - - -\nprerast 1 0 0 0 0 0 cw\nfragment 1 1 0 \
          0 - -\noutput 1 0 1:1 - u1:1 - - -\npipe 0 1 2 3\ntarget 0 u1 2 1 1 1 ffffffff\nbind \
          0 0 - - - -\ndraw 0 0 0 1 0 1\n";
     let text = "target 0 u1 2 1 1 1\n0000002a ffffffff\n";
@@ -227,7 +232,8 @@ fn links_by_layouts_and_kinds(rt: HostRuntime) -> Result<(), Fail> {
 
 #[test]
 fn takes_sixteen_entries(rt: HostRuntime) -> Result<(), Fail> {
-    let lines = "layout 0 0 - - - -\nvertex 1 points - - - -\nprerast 1 0 0 0 0 0 cw\nfragment 1 1 0 \
+    let lines =
+        "layout 0 0 - - - -\nvertex 1 points - - - -\nprerast 1 0 0 0 0 0 cw\nfragment 1 1 0 \
          0 - - 0=00000007 1=00000001 2=00000001 3=00000001 4=00000001 5=00000001 6=00000001 \
          7=00000001 8=00000001 9=00000001 10=00000001 11=00000001 12=00000001 13=00000001 \
          14=00000001 15=00000001\noutput 1 0 1:1 - u1:1 - - - - - - -\npipe 0 1 2 3\ntarget 0 \
@@ -260,7 +266,14 @@ fn refuses<R: Threads + Wait + Sync>(
 ) -> Result<bool, AllocError> {
     let mut source = FirmSource::new(bytes);
     let mut sink = sink(alloc, 4096, Vec::new(alloc))?;
-    let outcome = run(rt, alloc, &one(alloc, "play")?, &mut source, &mut sink, &NoGate);
+    let outcome = run(
+        rt,
+        alloc,
+        &one(alloc, "play")?,
+        &mut source,
+        &mut sink,
+        &NoGate,
+    );
     let Some(fault) = outcome.fault else {
         return Ok(false);
     };
@@ -275,33 +288,76 @@ fn refuses_a_byte_too_many(rt: HostRuntime) -> Result<(), Fail> {
     Ok(())
 }
 
+/// Whether `play` refuses a trace of two modules and these lines with this line.
+fn refuses_lines<R: Threads + Wait + Sync>(
+    rt: &R,
+    alloc: Global,
+    head: &str,
+    lines: &str,
+    line: &str,
+) -> Result<bool, AllocError> {
+    let [[a, b, c], [d, e, f]] = [POINT, PLAIN];
+    let trace = format!(in alloc; "{head}{a}{b}{c}\n{d}{e}{f}\n{lines}")?;
+    refuses(rt, alloc, trace.as_bytes().to_vec(alloc)?, line)
+}
+
 #[test]
-fn refuses_a_line_of_no_form_or_that_names_what_is_not_there(rt: HostRuntime) -> Result<(), Fail> {
+fn refuses_more_places_than_the_version_has(rt: HostRuntime) -> Result<(), Fail> {
     for (head, lines, line) in [
-        ("gplt 1\n", "layout 0 0 - - - -\nvertex 1 points - - - -\nprerast 1 0 0 0 0 0 cw\nfragment 1 1 0 \
+        (
+            "gplt 1\n",
+            "layout 0 0 - - - -\nvertex 1 points - - - -\nprerast 1 0 0 0 0 0 cw\nfragment 1 1 0 \
          0 - -\noutput 1 0 1:1 - u1:1 u1:1 u1:1 u1:1 u1:1 u1:1 u1:1 u1:1\npipe 0 1 2 3\n\
-         target 0 u1 2 1 1 1 ffffffff\nbind 0 0 - - - -\ndraw 0 0 0 1 0 1\n", "gplrun: line 8: BadLine\n"),
-        ("gplt 2\n", "layout 0 0 - - - -\nvertex 1 points - - - -\nprerast 1 0 0 0 0 0 cw\nfragment 1 1 0 \
+         target 0 u1 2 1 1 1 ffffffff\nbind 0 0 - - - -\ndraw 0 0 0 1 0 1\n",
+            "gplrun: line 8: BadLine\n",
+        ),
+        (
+            "gplt 2\n",
+            "layout 0 0 - - - -\nvertex 1 points - - - -\nprerast 1 0 0 0 0 0 cw\nfragment 1 1 0 \
          0 - - 0=00000001 1=00000001 2=00000001 3=00000001 4=00000001 5=00000001 6=00000001 \
          7=00000001 8=00000001 9=00000001 10=00000001 11=00000001 12=00000001 13=00000001 \
-         14=00000001 15=00000001 16=00000001\n", "gplrun: line 7: BadLine\n"),
-        ("gplt 1\n", "layout 0 0 - - - -\nvertex 1 points - - - -\nprerast 1 0 0 0 0 0 cw\nfragment 1 1 0 \
-         0 - -\noutput 1 0 1:1 - u1:1 - - -\npipe 0 1 2 4\ntarget 0 u1 2 1 1 1 ffffffff\nbind \
-         0 0 - - - -\ndraw 0 0 0 1 0 1\n", "gplrun: line 9: Unknown\n"),
-        ("gplt 1\n", "layout 0 0 - - - -\nvertex 1 points - - - -\nprerast 1 0 0 0 0 0 cw\nfragment 1 1 0 \
-         0 - -\noutput 1 0 1:1 - u1:1 - - -\npipe 0 1 2 3\ntarget 0 u1 2 1 1 1 ffffffff\nbind \
-         0 - - - - 0\n", "gplrun: line 11: Unknown\n"),
-        ("gplt 1\n", "layout 0 0 - - - -\nvertex 1 points - - - -\nprerast 1 1 0 0 0 0 cw\nfragment 1 1 0 \
-         0 - -\noutput 1 0 1:1 - u1:1 - - -\npipe 0 1 2 3\ntarget 0 u1 2 1 1 1 ffffffff\nbind \
-         0 0 - - - -\ndraw 0 0 0 1 0 1\n", "gplrun: line 6: BadPart\n"),
-        ("gplt 1\n", "layout 0 0 - - - -\nvertex 1 points - - - -\nprerast 1 0 0 0 0 0 cw\nfragment 1 1 0 \
-         0 - -\noutput 1 0 1:1 - u1:1 - - -\npipe 0 1 2 3\ntarget 1 u1 2 1 1 1 ffffffff\nbind \
-         0 0 - - - -\ndraw 0 0 0 1 0 1\n", "gplrun: line 11: ForeignTarget\n"),
+         14=00000001 15=00000001 16=00000001\n",
+            "gplrun: line 7: BadLine\n",
+        ),
     ] {
-        let [[a, b, c], [d, e, f]] = [POINT, PLAIN];
-        let trace = format!(in rt.alloc(); "{head}{a}{b}{c}\n{d}{e}{f}\n{lines}")?;
-        let bytes = trace.as_bytes().to_vec(rt.alloc())?;
-        assert!(rt; refuses(&rt, rt.alloc(), bytes, line)?);
+        assert!(rt; refuses_lines(&rt, rt.alloc(), head, lines, line)?);
+    }
+    Ok(())
+}
+
+#[test]
+fn refuses_what_earlier_lines_do_not_fit(rt: HostRuntime) -> Result<(), Fail> {
+    for (head, lines, line) in [
+        (
+            "gplt 1\n",
+            "layout 0 0 - - - -\nvertex 1 points - - - -\nprerast 1 0 0 0 0 0 cw\nfragment 1 1 0 \
+         0 - -\noutput 1 0 1:1 - u1:1 - - -\npipe 0 1 2 4\ntarget 0 u1 2 1 1 1 ffffffff\nbind \
+         0 0 - - - -\ndraw 0 0 0 1 0 1\n",
+            "gplrun: line 9: Unknown\n",
+        ),
+        (
+            "gplt 1\n",
+            "layout 0 0 - - - -\nvertex 1 points - - - -\nprerast 1 0 0 0 0 0 cw\nfragment 1 1 0 \
+         0 - -\noutput 1 0 1:1 - u1:1 - - -\npipe 0 1 2 3\ntarget 0 u1 2 1 1 1 ffffffff\nbind \
+         0 - - - - 0\n",
+            "gplrun: line 11: Unknown\n",
+        ),
+        (
+            "gplt 1\n",
+            "layout 0 0 - - - -\nvertex 1 points - - - -\nprerast 1 1 0 0 0 0 cw\nfragment 1 1 0 \
+         0 - -\noutput 1 0 1:1 - u1:1 - - -\npipe 0 1 2 3\ntarget 0 u1 2 1 1 1 ffffffff\nbind \
+         0 0 - - - -\ndraw 0 0 0 1 0 1\n",
+            "gplrun: line 6: BadPart\n",
+        ),
+        (
+            "gplt 1\n",
+            "layout 0 0 - - - -\nvertex 1 points - - - -\nprerast 1 0 0 0 0 0 cw\nfragment 1 1 0 \
+         0 - -\noutput 1 0 1:1 - u1:1 - - -\npipe 0 1 2 3\ntarget 1 u1 2 1 1 1 ffffffff\nbind \
+         0 0 - - - -\ndraw 0 0 0 1 0 1\n",
+            "gplrun: line 11: ForeignTarget\n",
+        ),
+    ] {
+        assert!(rt; refuses_lines(&rt, rt.alloc(), head, lines, line)?);
     }
     Ok(())
 }
@@ -310,12 +366,27 @@ fn refuses_a_line_of_no_form_or_that_names_what_is_not_there(rt: HostRuntime) ->
 fn refuses_a_head_a_size_and_words_past_the_rules(rt: HostRuntime) -> Result<(), Fail> {
     for (trace, line) in [
         ("gplt 3\n", "gplrun: line 1: NoHeader\n"),
-        ("gplt 1\ntarget 0 u4 256 256 4 4 00000000\n", "gplrun: line 2: TooMany\n"),
-        ("gplt 1\ncode 07230203 00010000 00000000 0000000c 00000000 00030016 00000001 \
-         00000020\n", "gplrun: line 2: FloatType\n"),
-        ("gplt 1\ncode 07230203 00010000 00000000 0000000c 00000000 00000011\n", "gplrun: line 2: ZeroLength\n"),
-        ("gplt 1\ncode 07230203 00010000 00000000 0000000c 00000000 00020011\n", "gplrun: line 2: CutShort\n"),
-        ("gplt 1\ncode 07230203 00010000 00000000 ffffffff 00000000\n", "gplrun: line 2: BadHeader\n"),
+        (
+            "gplt 1\ntarget 0 u4 256 256 4 4 00000000\n",
+            "gplrun: line 2: TooMany\n",
+        ),
+        (
+            "gplt 1\ncode 07230203 00010000 00000000 0000000c 00000000 00030016 00000001 \
+         00000020\n",
+            "gplrun: line 2: FloatType\n",
+        ),
+        (
+            "gplt 1\ncode 07230203 00010000 00000000 0000000c 00000000 00000011\n",
+            "gplrun: line 2: ZeroLength\n",
+        ),
+        (
+            "gplt 1\ncode 07230203 00010000 00000000 0000000c 00000000 00020011\n",
+            "gplrun: line 2: CutShort\n",
+        ),
+        (
+            "gplt 1\ncode 07230203 00010000 00000000 ffffffff 00000000\n",
+            "gplrun: line 2: BadHeader\n",
+        ),
     ] {
         let bytes = trace.as_bytes().to_vec(rt.alloc())?;
         assert!(rt; refuses(&rt, rt.alloc(), bytes, line)?);

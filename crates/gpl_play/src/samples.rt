@@ -1,4 +1,4 @@
-//! Modules of traces, each as the words of its line: all that stand before one word, that word, and all behind it.
+//! Modules of traces, each as its line: what stands before a word, that word, and the rest.
 
 use crate::tests::{FRAGMENT, FRAGMENT_END, OTHER, VERTEX, VERTEX_END};
 

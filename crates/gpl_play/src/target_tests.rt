@@ -46,17 +46,28 @@ fn compares_an_equal_depth(rt: HostRuntime) -> Result<(), Fail> {
 
 #[test]
 fn draws_to_the_last_place(rt: HostRuntime) -> Result<(), Fail> {
-    let lines = "layout 0 0 - - - -\nvertex 1 points - - - -\nprerast 1 0 0 0 0 0 cw\nfragment 1 1 0 \
+    let lines =
+        "layout 0 0 - - - -\nvertex 1 points - - - -\nprerast 1 0 0 0 0 0 cw\nfragment 1 1 0 \
          0 - -\noutput 1 0 1:1 - - - - - - - - u1:1\npipe 0 1 2 3\ntarget 0 u1 2 1 1 1 \
          00000000\nbind 0 - - - - - - - 0 -\ndraw 0 0 0 1 0 1\n";
     let text = "target 0 u1 2 1 1 1\n0000002a 00000000\n";
-    assert!(rt; prints(&rt, rt.alloc(), PLAY_SECOND, [POINT, PLAIN_AT_SEVEN], lines, text)?);
+    assert!(rt;
+        prints(
+            &rt,
+            rt.alloc(),
+            PLAY_SECOND,
+            [POINT, PLAIN_AT_SEVEN],
+            lines,
+            text
+        )?
+    );
     Ok(())
 }
 
 #[test]
 fn draws_to_eight_attachments_at_once(rt: HostRuntime) -> Result<(), Fail> {
-    let lines = "layout 0 0 - - - -\nvertex 1 points - - - -\nprerast 1 0 0 0 0 0 cw\nfragment 1 1 0 \
+    let lines =
+        "layout 0 0 - - - -\nvertex 1 points - - - -\nprerast 1 0 0 0 0 0 cw\nfragment 1 1 0 \
          0 - -\noutput 1 0 1:1 - u1:1 u1:1 u1:1 u1:1 u1:1 u1:1 u1:1 u1:1\npipe 0 1 2 3\n\
          target 0 u1 2 1 1 1 ffffffff\ntarget 0 u1 2 1 1 1 ffffffff\ntarget 0 u1 2 1 1 1 \
          ffffffff\ntarget 0 u1 2 1 1 1 ffffffff\ntarget 0 u1 2 1 1 1 ffffffff\ntarget 0 u1 2 \
@@ -72,7 +83,8 @@ fn draws_to_eight_attachments_at_once(rt: HostRuntime) -> Result<(), Fail> {
 
 #[test]
 fn combines_by_each_logic_operation(rt: HostRuntime) -> Result<(), Fail> {
-    let lines = "layout 0 0 - - - -\nvertex 1 points - - - -\nprerast 1 0 0 0 0 0 cw\nfragment 1 1 0 \
+    let lines =
+        "layout 0 0 - - - -\nvertex 1 points - - - -\nprerast 1 0 0 0 0 0 cw\nfragment 1 1 0 \
          0 - -\noutput 1 0 1:1 0 u1:1 - - - - - - -\noutput 1 0 1:1 1 u1:1 - - - - - - -\n\
          output 1 0 1:1 2 u1:1 - - - - - - -\noutput 1 0 1:1 3 u1:1 - - - - - - -\noutput 1 0 \
          1:1 4 u1:1 - - - - - - -\noutput 1 0 1:1 5 u1:1 - - - - - - -\noutput 1 0 1:1 6 u1:1 \
@@ -176,7 +188,8 @@ fn gives_back_what_was_there_under_two_draws_by_exclusive_or(rt: HostRuntime) ->
 
 #[test]
 fn draws_each_view_on_its_layer(rt: HostRuntime) -> Result<(), Fail> {
-    let lines = "layout 0 0 - - - -\nvertex 1 points - - - -\nprerast 1 0 0 5 0 0 cw\nfragment 1 1 0 \
+    let lines =
+        "layout 0 0 - - - -\nvertex 1 points - - - -\nprerast 1 0 0 5 0 0 cw\nfragment 1 1 0 \
          5 - -\noutput 1 5 1:1 - u1:1 - - -\npipe 0 1 2 3\ntarget 0 u1 2 1 3 1 00000000\nbind \
          0 0 - - - -\ndraw 0 0 0 1 0 1\n";
     let text = "target 0 u1 2 1 3 1\n0000002a 00000000\n00000000 00000000\n0000002a 00000000\n";
@@ -186,7 +199,8 @@ fn draws_each_view_on_its_layer(rt: HostRuntime) -> Result<(), Fail> {
 
 #[test]
 fn draws_the_samples_of_the_mask(rt: HostRuntime) -> Result<(), Fail> {
-    let lines = "layout 0 0 - - - -\nvertex 1 points - - - -\nprerast 1 0 0 0 0 0 cw\nfragment 1 1 0 \
+    let lines =
+        "layout 0 0 - - - -\nvertex 1 points - - - -\nprerast 1 0 0 0 0 0 cw\nfragment 1 1 0 \
          0 - 4:5\noutput 1 0 4:5 - u1:1 - - -\npipe 0 1 2 3\ntarget 0 u1 2 1 1 4 00000000\n\
          bind 0 0 - - - -\ndraw 0 0 0 1 0 1\n";
     let text = "target 0 u1 2 1 1 4\n0000002a/00000000/0000002a/00000000 \
@@ -196,7 +210,7 @@ fn draws_the_samples_of_the_mask(rt: HostRuntime) -> Result<(), Fail> {
 }
 
 #[test]
-fn passes_over_targets_that_do_not_fit(rt: HostRuntime) -> Result<(), Fail> {
+fn goes_on_past_a_depth_target_of_other_samples(rt: HostRuntime) -> Result<(), Fail> {
     for (call, modules, lines, text) in [
         (
             PLAY,
@@ -217,6 +231,15 @@ fn passes_over_targets_that_do_not_fit(rt: HostRuntime) -> Result<(), Fail> {
              00000005\nvbuf 0 0 0\nbind 0 0 - - - 1\ndraw 0 0 0 1 0 1\n",
             "target 0 u1 2 1 1 1\nffffffff ffffffff\ntarget 1 z 2 1 1 1\n00000005 00000005\n",
         ),
+    ] {
+        assert!(rt; prints(&rt, rt.alloc(), call, modules, lines, text)?);
+    }
+    Ok(())
+}
+
+#[test]
+fn writes_no_attachment_of_another_form(rt: HostRuntime) -> Result<(), Fail> {
+    for (call, modules, lines, text) in [
         (
             PLAY,
             [POINT, PLAIN],
