@@ -25,4 +25,10 @@ pub use trace_model::Serve;
 pub use trace_model::line_fault::{Cause, TraceFault};
 
 #[cfg(test)]
+mod row_tests;
+#[cfg(test)]
+mod samples;
+#[cfg(test)]
+mod target_tests;
+#[cfg(test)]
 mod tests;

@@ -9,30 +9,30 @@ use std::test::Fail;
 use std::thread::Threads;
 
 /// The words of the vertex module before the word of its position's x and y, and after it.
-const VERTEX: &str =
+pub(crate) const VERTEX: &str =
     "code 07230203 00010000 00000000 0000000c 00000000 00020011 00000001 0003000e 00000000 00000001 0006000f \
      00000000 0000000a 6e69616d 00000000 00000006 00040047 00000006 0000000b 00000000 00020013 00000001 \
      00030021 00000002 00000001 00040015 00000003 00000020 00000001 00040017 00000004 00000003 00000004 \
      00040020 00000005 00000003 00000004 0004003b 00000005 00000006 00000003 0004002b 00000003 00000007 \
      00000000 0004002b 00000003 00000008 ";
 
-const VERTEX_END: &str =
+pub(crate) const VERTEX_END: &str =
     " 0007002c 00000004 00000009 00000008 00000008 00000007 00000007 00050036 00000001 0000000a 00000000 \
      00000002 000200f8 0000000b 0003003e 00000006 00000009 000100fd 00010038";
 
 /// The same of the fragment module and its colour.
-const FRAGMENT: &str =
+pub(crate) const FRAGMENT: &str =
     "code 07230203 00010000 00000000 00000009 00000000 00020011 00000001 0003000e 00000000 00000001 0006000f \
      00000004 00000007 6e69616d 00000000 00000005 00030010 00000007 00000007 00040047 00000005 0000001e \
      00000000 00020013 00000001 00030021 00000002 00000001 00040015 00000003 00000020 00000000 00040020 \
      00000004 00000003 00000003 0004003b 00000004 00000005 00000003 0004002b 00000003 00000006 ";
 
-const FRAGMENT_END: &str =
+pub(crate) const FRAGMENT_END: &str =
     " 00050036 00000001 00000007 00000000 00000002 000200f8 00000008 0003003e 00000005 00000006 000100fd \
      00010038";
 
 /// A fragment module that divides 100 by a specialization constant, which is 7 where nothing sets it.
-const OTHER: &str =
+pub(crate) const OTHER: &str =
     "code 07230203 00010000 00000000 0000000b 00000000 00020011 00000001 0003000e 00000000 00000001 0006000f \
      00000004 00000007 6e69616d 00000000 00000005 00030010 00000007 00000007 00040047 00000005 0000001e \
      00000000 00040047 00000009 00000001 00000000 00020013 00000001 00030021 00000002 00000001 00040015 \
@@ -125,14 +125,14 @@ fn status_of<R: Threads + Wait + Sync, S: Source, K: Sink>(
     Ok(run(rt, alloc, &list, source, sink, &NoGate).status)
 }
 
-fn sink(alloc: Global, piece: usize, failing: Vec<u64>) -> Result<MemSink, AllocError>
+pub(crate) fn sink(alloc: Global, piece: usize, failing: Vec<u64>) -> Result<MemSink, AllocError>
     requires { 0 < piece }
 {
     MemSink::new(alloc, 4096, piece, failing)
 }
 
 /// Whether a call with these words on these bytes ends with this status, and has written this.
-fn ends<R: Threads + Wait + Sync>(
+pub(crate) fn ends<R: Threads + Wait + Sync>(
     rt: &R,
     alloc: Global,
     words: &[&str],
@@ -267,7 +267,7 @@ fn faults<R: Threads + Wait + Sync>(
 }
 
 /// The list of this word alone.
-fn one(alloc: Global, word: &str) -> Result<Vec<String>, AllocError> {
+pub(crate) fn one(alloc: Global, word: &str) -> Result<Vec<String>, AllocError> {
     let mut words = Vec::new(alloc);
     words.push(String::from_str(alloc, word)?)?;
     Ok(words)
