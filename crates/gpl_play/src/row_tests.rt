@@ -29,7 +29,9 @@ pub(crate) fn prints<R: Threads + Wait + Sync>(
     text: &str,
 ) -> Result<bool, AllocError> {
     let (word, head) = call;
-    let [[a, b, c], [d, e, f]] = modules;
+    let [vertex, fragment] = modules;
+    let Module(a, b, c) = vertex;
+    let Module(d, e, f) = fragment;
     let trace = format!(in alloc; "{head}{a}{b}{c}\n{d}{e}{f}\n{lines}")?;
     ends(rt, alloc, &[word], trace.as_bytes(), 0, text.as_bytes())
 }
@@ -296,7 +298,8 @@ fn refuses_lines<R: Threads + Wait + Sync>(
     lines: &str,
     line: &str,
 ) -> Result<bool, AllocError> {
-    let [[a, b, c], [d, e, f]] = [POINT, PLAIN];
+    let Module(a, b, c) = POINT;
+    let Module(d, e, f) = PLAIN;
     let trace = format!(in alloc; "{head}{a}{b}{c}\n{d}{e}{f}\n{lines}")?;
     refuses(rt, alloc, trace.as_bytes().to_vec(alloc)?, line)
 }

@@ -2,22 +2,23 @@
 
 use crate::tests::{FRAGMENT, FRAGMENT_END, OTHER, VERTEX, VERTEX_END};
 
-pub(crate) type Module = [&'static str; 3];
+#[derive(Clone, Copy, Drop)]
+pub(crate) struct Module(pub &'static str, pub &'static str, pub &'static str);
 
 /// One point in pixel (0, 0).
-pub(crate) const POINT: Module = [VERTEX, "00000080", VERTEX_END];
+pub(crate) const POINT: Module = Module(VERTEX, "00000080", VERTEX_END);
 
 /// Its fragments have the colour 42.
-pub(crate) const PLAIN: Module = [FRAGMENT, "0000002a", FRAGMENT_END];
+pub(crate) const PLAIN: Module = Module(FRAGMENT, "0000002a", FRAGMENT_END);
 
 /// Its fragments have the colour 10.
-pub(crate) const TEN: Module = [FRAGMENT, "0000000a", FRAGMENT_END];
+pub(crate) const TEN: Module = Module(FRAGMENT, "0000000a", FRAGMENT_END);
 
 /// The colour is 100 divided by specialization constant 0, which is 7 where nothing sets it.
-pub(crate) const DIVIDES: Module = [OTHER, "", ""];
+pub(crate) const DIVIDES: Module = Module(OTHER, "", "");
 
 /// The colour 42 at location 7.
-pub(crate) const PLAIN_AT_SEVEN: Module = [
+pub(crate) const PLAIN_AT_SEVEN: Module = Module(
     "code 07230203 00010000 00000000 00000009 00000000 00020011 00000001 0003000e 00000000 \
      00000001 0006000f 00000004 00000007 6e69616d 00000000 00000005 00030010 00000007 \
      00000007 00040047 00000005 0000001e ",
@@ -26,10 +27,10 @@ pub(crate) const PLAIN_AT_SEVEN: Module = [
      00040020 00000004 00000003 00000003 0004003b 00000004 00000005 00000003 0004002b \
      00000003 00000006 0000002a 00050036 00000001 00000007 00000000 00000002 000200f8 \
      00000008 0003003e 00000005 00000006 000100fd 00010038",
-];
+);
 
 /// The position is what the attribute at location 0 reads.
-pub(crate) const PLACED: Module = [
+pub(crate) const PLACED: Module = Module(
     "code 07230203 00010000 00000000 0000000c 00000000 00020011 00000001 0003000e 00000000 \
      00000001 0007000f 00000000 0000000a 6e69616d 00000000 00000006 00000008 00040047 \
      00000006 0000000b 00000000 00040047 00000008 0000001e 00000000 00020013 00000001 \
@@ -40,10 +41,10 @@ pub(crate) const PLACED: Module = [
      00000009 00000008 0003003e 00000006 00000009 000100fd 00010038",
     "",
     "",
-];
+);
 
 /// A loop counts to specialization constant 1, which is 3 where nothing sets it.
-pub(crate) const LOOPS: Module = [
+pub(crate) const LOOPS: Module = Module(
     "code 07230203 00010000 00000000 0000001a 00000000 00020011 00000001 0003000e 00000000 \
      00000001 0006000f 00000004 00000007 6e69616d 00000000 00000005 00030010 00000007 \
      00000007 00040047 00000005 0000001e 00000000 00040047 00000009 00000001 00000001 \
@@ -61,10 +62,10 @@ pub(crate) const LOOPS: Module = [
      0000000d 0003003e 00000005 00000017 000100fd 00010038",
     "",
     "",
-];
+);
 
 /// A phi gives 11 where specialization constant 2 is true, as it is where nothing sets it, else 22.
-pub(crate) const SELECTS: Module = [
+pub(crate) const SELECTS: Module = Module(
     "code 07230203 00010000 00000000 00000010 00000000 00020011 00000001 0003000e 00000000 \
      00000001 0006000f 00000004 00000007 6e69616d 00000000 00000005 00030010 00000007 \
      00000007 00040047 00000005 0000001e 00000000 00040047 00000009 00000001 00000002 \
@@ -78,10 +79,10 @@ pub(crate) const SELECTS: Module = [
      0000000f 000100fd 00010038",
     "",
     "",
-];
+);
 
 /// The input at location 3, plus 1; with an import, a source and names.
-pub(crate) const READS: Module = [
+pub(crate) const READS: Module = Module(
     "code 07230203 00010000 00000000 0000000f 00000000 00020011 00000001 0006000b 0000000e \
      4c534c47 6474732e 3035342e 00000000 0003000e 00000000 00000001 0007000f 00000004 \
      00000007 6e69616d 00000000 00000005 00000009 00030010 00000007 00000007 00030003 \
@@ -95,10 +96,10 @@ pub(crate) const READS: Module = [
      00050080 00000003 0000000c 0000000b 00000006 0003003e 00000005 0000000c 000100fd 00010038",
     "",
     "",
-];
+);
 
 /// Each of the eight locations gets its number plus 1.
-pub(crate) const EIGHT: Module = [
+pub(crate) const EIGHT: Module = Module(
     "code 07230203 00010000 00000000 00000028 00000000 00020011 00000001 0003000e 00000000 \
      00000001 000d000f 00000004 00000007 6e69616d 00000000 0000000a 0000000b 0000000c \
      0000000d 0000000e 0000000f 00000010 00000011 00030010 00000007 00000007 00040047 \
@@ -120,4 +121,4 @@ pub(crate) const EIGHT: Module = [
      0000001a 0003003e 00000011 0000001b 000100fd 00010038",
     "",
     "",
-];
+);
