@@ -1,0 +1,5 @@
+pub mod Composing
+pub mod Followed
+pub mod SameEffects
+pub mod SameFunction
+pub mod SameStarts
