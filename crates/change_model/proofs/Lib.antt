@@ -1,5 +1,12 @@
 pub mod Composing
+pub mod ConstantsKeep
+pub mod ConstantsShorten
+pub mod ConstantsStand
 pub mod Followed
 pub mod SameEffects
 pub mod SameFunction
 pub mod SameStarts
+pub mod SettledFunction
+pub mod SettledMeanings
+pub mod SettledValues
+pub mod Settlings

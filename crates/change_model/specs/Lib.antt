@@ -1,3 +1,5 @@
+pub mod Constants
 pub mod Following
 pub mod Keeping
 pub mod Programs
+pub mod Settling
