@@ -8,5 +8,6 @@ pub mod SameFunction
 pub mod SameStarts
 pub mod SettledFunction
 pub mod SettledMeanings
+pub mod SettledPlaces
 pub mod SettledValues
 pub mod Settlings

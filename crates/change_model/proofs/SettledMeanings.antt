@@ -40,7 +40,7 @@ pub record IsKnownAs (new old : Option IdFacts) : Type 0 where
 abbrev pub KnowsAs : Knowledge → Knowledge → Type 0
 KnowsAs new old = (id : ℕ) → IsKnownAs (new id) (old id)
 
-known_itself : (known : Option IdFacts) → IsKnownAs known known
+pub known_itself : (known : Option IdFacts) → IsKnownAs known known
 known_itself known = record { there = refl; meaning = refl; size = refl; length = inr refl }
 
 -- ---- types
@@ -105,13 +105,13 @@ type_same new old k inst there = by_array (inst.op == op.TYPE_ARRAY) refl (k (wo
 
 -- ---- results
 
-spec_is_no_type : (of : Option Class) → is_spec_class of ≡ true → is_type_class of ≡ false
+pub spec_is_no_type : (of : Option Class) → is_spec_class of ≡ true → is_type_class of ≡ false
 spec_is_no_type None is = cc
 spec_is_no_type (Some class.SpecConstant) is = refl
 spec_is_no_type (Some class.SpecConstantResult) is = refl
 spec_is_no_type (Some other) is = cc
 
-constant_is_no_type : (of : Option Class) → is_plain_constant_class of ≡ true → is_type_class of ≡ false
+pub constant_is_no_type : (of : Option Class) → is_plain_constant_class of ≡ true → is_type_class of ≡ false
 constant_is_no_type None is = cc
 constant_is_no_type (Some class.Constant) is = refl
 constant_is_no_type (Some other) is = cc
@@ -142,7 +142,7 @@ taken : (b : Bool) (x y : Bool) → b ≡ true → (if b then x else y) ≡ fals
 taken true x y is none = none
 taken false x y is none = cc
 
-allowed_type : (known : Knowledge) (inst : Inst) → breaks_types known inst ≡ false → is_type inst.op ≡ true → is_none (type_of known inst) ≡ false
+pub allowed_type : (known : Knowledge) (inst : Inst) → breaks_types known inst ≡ false → is_type inst.op ≡ true → is_none (type_of known inst) ≡ false
 unfolding breaks_types
 allowed_type known inst allowed is = taken (is_type inst.op) (is_none (type_of known inst)) _ is allowed
 
@@ -211,7 +211,7 @@ as_before : (new old : Knowledge) → KnowsAs new old → (inst : Inst) → is_s
 as_before new old k inst is = λ id. subst (IsKnownAs (new id)) (sym (none_known old inst is id)) (k id)
 
 -- types are allowed at each place
-abbrev Allowed : Knowledge → List Inst → Type 0
+abbrev pub Allowed : Knowledge → List Inst → Type 0
 Allowed known insts = (place : ℕ) → place < length insts → breaks_types (fold known_after known (take place insts)) (inst_at insts place) ≡ false
 
 pub known_settled : (f : Inst → Inst) → Settles f → (insts : List Inst) (new old : Knowledge) → KnowsAs new old → Allowed old insts → KnowsAs (fold known_after new (all_settled f insts)) (fold known_after old insts)
@@ -230,7 +230,7 @@ known_settled f s (inst ∷ insts) new old k allowed = by_test (known_settled f 
         subst (λ (l : List Inst). KnowsAs (fold known_after new l) (fold known_after (known_after old inst) insts)) (sym (settled_cons f inst insts isnt))
         (rest (known_after new (f inst)) (known_after old inst) (more_known new old k (f inst) inst (s inst) (allowed 0 (omega arith))) later)
 
-all_allowed : (words : Words) → type_fault words ≡ None → Allowed nothing_known words.insts
+pub all_allowed : (words : Words) → type_fault words ≡ None → Allowed nothing_known words.insts
 unfolding known_by
 all_allowed words sound = λ place within. (keeps_rules words sound place within).types
 
