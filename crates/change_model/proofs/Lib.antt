@@ -9,5 +9,6 @@ pub mod SameStarts
 pub mod SettledFunction
 pub mod SettledMeanings
 pub mod SettledPlaces
+pub mod SettledRules
 pub mod SettledValues
 pub mod Settlings

@@ -168,7 +168,7 @@ other_variable = record { no_spec = refl; no_constant = refl }
 no_decorate : (id decoration : ℕ) (inst : Inst) → inst.op == op.DECORATE ≡ false → decorates id decoration inst ≡ false
 no_decorate id decoration inst isnt = rw isnt refl
 
-no_offset : (id member : ℕ) (inst : Inst) → inst.op == op.MEMBER_DECORATE ≡ false → places_member id member inst ≡ false
+pub no_offset : (id member : ℕ) (inst : Inst) → inst.op == op.MEMBER_DECORATE ≡ false → places_member id member inst ≡ false
 no_offset id member inst isnt = rw isnt refl
 
 last_false : (a b c : Bool) → c ≡ false → ((a && b) && c) ≡ false
