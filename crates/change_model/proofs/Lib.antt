@@ -6,6 +6,7 @@ pub mod Followed
 pub mod SameEffects
 pub mod SameFunction
 pub mod SameStarts
+pub mod SettledDecorations
 pub mod SettledFunction
 pub mod SettledMeanings
 pub mod SettledPlaces

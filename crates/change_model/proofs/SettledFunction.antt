@@ -133,7 +133,7 @@ function_end_op insts d = by_found (slice_get insts d.after) refl d.function_end
     by_found None at is = absurd is
     by_found (Some inst) at is = subst Stays (sym (ap (λ (i : Inst). i.op) (get_or_from_slice_get insts d.after inst no_instruction at) ∙ is)) stays_function_end
 
-function_stays : (insts : List Inst) (d : Derives insts) (k : ℕ) → d.before + 1 ≤ k → k < length insts → Stays (inst_at insts k).op
+pub function_stays : (insts : List Inst) (d : Derives insts) (k : ℕ) → d.before + 1 ≤ k → k < length insts → Stays (inst_at insts k).op
 function_stays insts d k low within = elim (cases_lt k d.after) [
   | inl early ↦ part_stays (inst_at insts k) (part_at insts d k low early)
   | inr late ↦ let last = d.last in let e : d.after ≡ k = omega (arith, late, within, last) in

@@ -116,7 +116,7 @@ constant_is_no_type None is = cc
 constant_is_no_type (Some class.Constant) is = refl
 constant_is_no_type (Some other) is = cc
 
-spec_is_constant : (of : Option Class) → is_spec_class of ≡ true → is_constant_class of ≡ true
+pub spec_is_constant : (of : Option Class) → is_spec_class of ≡ true → is_constant_class of ≡ true
 spec_is_constant None is = cc
 spec_is_constant (Some class.SpecConstant) is = refl
 spec_is_constant (Some class.SpecConstantResult) is = refl
