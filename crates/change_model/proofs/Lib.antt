@@ -1,6 +1,8 @@
 pub mod Composing
+pub mod ConstantsFit
 pub mod ConstantsKeep
 pub mod ConstantsShorten
+pub mod ConstantsSound
 pub mod ConstantsStand
 pub mod Followed
 pub mod SameEffects
