@@ -8,6 +8,7 @@ pub mod Followed
 pub mod SameEffects
 pub mod SameFunction
 pub mod SameStarts
+pub mod SettledBody
 pub mod SettledDecorations
 pub mod SettledFunction
 pub mod SettledMeanings
