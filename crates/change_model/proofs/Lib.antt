@@ -5,6 +5,7 @@ pub mod ConstantsShorten
 pub mod ConstantsSound
 pub mod ConstantsStand
 pub mod Followed
+pub mod LaterIntervals
 pub mod SameEffects
 pub mod SameFunction
 pub mod SameStarts

@@ -96,7 +96,7 @@ is_type_found : Option Inst → Bool
 is_type_found None = false
 is_type_found (Some inst) = is_type inst.op
 
-found_at : (insts : List Inst) (id : ℕ) → find (gives id) insts ≡ option_map (inst_at insts) (definition insts id)
+pub found_at : (insts : List Inst) (id : ℕ) → find (gives id) insts ≡ option_map (inst_at insts) (definition insts id)
 unfolding definition
 found_at [] id = refl
 found_at (inst ∷ insts) id = by_test (gives id inst) (found_at insts id)
