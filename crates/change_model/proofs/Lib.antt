@@ -13,6 +13,7 @@ pub mod SettledBody
 pub mod SettledDecorations
 pub mod SettledFunction
 pub mod SettledMeanings
+pub mod SettledOperands
 pub mod SettledPlaces
 pub mod SettledRules
 pub mod SettledValues

@@ -26,11 +26,11 @@ use Rattle.change_model.proofs.SameStarts.{outcome_same}
 
 -- ---- labels behind instructions without any
 
-further : (n : ℕ) (place : Option ℕ) → option_map (λ (k : ℕ). suc k) (option_map (λ (k : ℕ). n + k) place) ≡ option_map (λ (k : ℕ). suc n + k) place
+pub further : (n : ℕ) (place : Option ℕ) → option_map (λ (k : ℕ). suc k) (option_map (λ (k : ℕ). n + k) place) ≡ option_map (λ (k : ℕ). suc n + k) place
 further n None = refl
 further n (Some k) = ap (λ (k : ℕ). Some k) {x = suc (n + k)} {y = suc n + k} (omega arith)
 
-as_far : (place : Option ℕ) → place ≡ option_map (λ (k : ℕ). 0 + k) place
+pub as_far : (place : Option ℕ) → place ≡ option_map (λ (k : ℕ). 0 + k) place
 as_far None = refl
 as_far (Some k) = ap (λ (k : ℕ). Some k) {x = k} {y = 0 + k} (omega arith)
 

@@ -99,11 +99,11 @@ part_stays inst (a_terminator is) = terminator_stays inst.op is
 
 -- ---- lists
 
-stays_same : (new old : Inst) → StandsFor new old → Stays old.op → new ≡ old
+pub stays_same : (new old : Inst) → StandsFor new old → Stays old.op → new ≡ old
 stays_same new old (same is) s = is
 stays_same new old (settles spec constant type id) s = absurd (clash (is_spec_class (class_of old.op)) spec s.no_spec)
 
-stays_kept : (inst : Inst) → Stays inst.op → is_spec_id inst ≡ false
+pub stays_kept : (inst : Inst) → Stays inst.op → is_spec_id inst ≡ false
 stays_kept inst s = ap (λ (b : Bool). b && (word_at 1 inst == SPEC_ID)) s.no_decorate
 
 pub unchanged : (f : Inst → Inst) → Settles f → (insts : List Inst) → ((k : ℕ) → k < length insts → Stays (inst_at insts k).op) → all_settled f insts ≡ insts
@@ -143,7 +143,7 @@ function_stays insts d k low within = elim (cases_lt k d.after) [
 abbrev pub first_of : (insts : List Inst) → Derives insts → ℕ
 first_of insts d = d.before + 1
 
-rest_unchanged : (f : Inst → Inst) → Settles f → (insts : List Inst) (d : Derives insts) → all_settled f (drop (first_of insts d) insts) ≡ drop (first_of insts d) insts
+pub rest_unchanged : (f : Inst → Inst) → Settles f → (insts : List Inst) (d : Derives insts) → all_settled f (drop (first_of insts d) insts) ≡ drop (first_of insts d) insts
 rest_unchanged f s insts d = unchanged f s (drop (first_of insts d) insts) (λ k within.
     subst (λ (i : Inst). Stays i.op) (sym (get_or-drop (first_of insts d) insts k no_instruction))
     (function_stays insts d (first_of insts d + k) (omega arith) (let e = length-drop (first_of insts d) insts in omega (arith, within, e))))
@@ -165,7 +165,7 @@ same_rest f s insts d =
 
 -- ---- no label before it
 
-other_label : IsOther op.LABEL
+pub other_label : IsOther op.LABEL
 unfolding class_of entry_of
 other_label = record { no_spec = refl; no_constant = refl }
 
@@ -175,7 +175,7 @@ is_label inst = inst.op == op.LABEL
 level_test : (is_module_level op.LABEL || (op.LABEL == op.FUNCTION)) ≡ false
 level_test = ap (λ (b : Bool). b || false) no_level_label
 
-old_front : (insts : List Inst) (d : Derives insts) (k : ℕ) → k < first_of insts d → (inst_at insts k).op == op.LABEL ≡ false
+pub old_front : (insts : List Inst) (d : Derives insts) (k : ℕ) → k < first_of insts d → (inst_at insts k).op == op.LABEL ≡ false
 old_front insts d k less = another (λ opcode. is_module_level opcode || (opcode == op.FUNCTION)) op.LABEL level_test (inst_at insts k).op ((front_of (record { insts = insts; bound = 0 }) d).level k less)
 
 first_within : (insts : List Inst) (d : Derives insts) → first_of insts d < length insts
@@ -192,7 +192,7 @@ no_label_before insts d = no_label_in (take (first_of insts d) insts) (λ k with
     let less : k < first_of insts d = omega (arith, within, long, w) in
     ap is_label (get_or-take (first_of insts d) insts k no_instruction less) ∙ old_front insts d k less)
 
-new_front : (f : Inst → Inst) → Settles f → (insts : List Inst) (d : Derives insts) (k : ℕ) → k < settled_first f insts d → (inst_at (all_settled f insts) k).op == op.LABEL ≡ false
+pub new_front : (f : Inst → Inst) → Settles f → (insts : List Inst) (d : Derives insts) (k : ℕ) → k < settled_first f insts d → (inst_at (all_settled f insts) k).op == op.LABEL ≡ false
 new_front f s insts d k less =
     let level = all_settled f (take (first_of insts d) insts) in
     ap (λ (l : List Inst). is_label (inst_at l k)) (parts_settled f s insts d)

@@ -35,7 +35,7 @@ use Rattle.change_model.proofs.SettledPlaces.{PlaceOf, earlier_is, gives_kept}
 
 -- ---- what is known before a place
 
-take_take : (n m : ℕ) (insts : List Inst) → n ≤ m → take n (take m insts) ≡ take n insts
+pub take_take : (n m : ℕ) (insts : List Inst) → n ≤ m → take n (take m insts) ≡ take n insts
 take_take zero m insts less = refl
 take_take (suc n) zero insts less = absurd (omega (arith, less))
 take_take (suc n) (suc m) [] less = refl
