@@ -16,5 +16,7 @@ pub mod SettledMeanings
 pub mod SettledOperands
 pub mod SettledPlaces
 pub mod SettledRules
+pub mod SettledUses
 pub mod SettledValues
+pub mod SettledVisible
 pub mod Settlings
