@@ -1,14 +1,17 @@
+mod Worked
 pub mod Composing
 pub mod ConstantsFit
 pub mod ConstantsKeep
 pub mod ConstantsShorten
 pub mod ConstantsSound
 pub mod ConstantsStand
+pub mod ConstantsValid
 pub mod Followed
 pub mod LaterIntervals
 pub mod SameEffects
 pub mod SameFunction
 pub mod SameStarts
+pub mod SettledBlocks
 pub mod SettledBody
 pub mod SettledDecorations
 pub mod SettledFunction

@@ -29,7 +29,7 @@ use Rattle.change_model.proofs.SettledPlaces.{PlaceOf}
 
 -- ---- what the rules ask, numbers of specialization constants aside
 
-pub hidden : ModuleFacts → ModuleFacts
+unfoldable pub hidden : ModuleFacts → ModuleFacts
 hidden facts = record {
   decoration = λ id decoration. if decoration == SPEC_ID then None else facts.decoration id decoration;
   offset = facts.offset;
@@ -38,7 +38,7 @@ hidden facts = record {
   meaning = facts.meaning;
 }
 
-pub hidden_before : EarlierFacts → EarlierFacts
+unfoldable pub hidden_before : EarlierFacts → EarlierFacts
 hidden_before before = record {
   decoration = λ id decoration. if decoration == SPEC_ID then false else before.decoration id decoration;
   offset = before.offset;

@@ -250,7 +250,7 @@ operands_settled f s words sound place p good =
 
 -- ---- storage
 
-other_function : IsOther op.FUNCTION
+pub other_function : IsOther op.FUNCTION
 unfolding class_of entry_of
 other_function = record { no_spec = refl; no_constant = refl }
 

@@ -131,15 +131,13 @@ find_later k label (block ∷ blocks) = by_test (is_labelled label block) (find_
     by_test false rest = rest
 
 -- a block's end stands no earlier than the first instruction
-pub NoEarlier : ℕ → Option ℕ → Type 0
+abbrev pub NoEarlier : ℕ → Option ℕ → Type 0
 NoEarlier n found = (end : ℕ) → found ≡ Some end → n ≤ end
 
 wider : (n : ℕ) (found : Option ℕ) → NoEarlier (n + 1) found → NoEarlier n found
-unfolding NoEarlier
 wider n found later = λ end is. (let l = later end is in omega (arith, l))
 
 first_or_later : (n : ℕ) (named : Bool) (block : Block) (found : Option Block) → block.end ≡ n → NoEarlier n (option_map (λ (b : Block). b.end) found) → NoEarlier n (option_map (λ (b : Block). b.end) (cond named (Some block) found))
-unfolding NoEarlier
 first_or_later n true block found is rest = λ end equal. one n block.end end is equal
   where
     one : (n a b : ℕ) → a ≡ n → ◌≡◌ {A = Option ℕ} (Some a) (Some b) → n ≤ b
@@ -147,7 +145,6 @@ first_or_later n true block found is rest = λ end equal. one n block.end end is
 first_or_later n false block found is rest = rest
 
 never : (n : ℕ) → NoEarlier n None
-unfolding NoEarlier
 never n = λ end is. cc
 
 pub ends_behind : (n label own : ℕ) (insts : List Inst) → NoEarlier n (option_map (λ (b : Block). b.end) (find (is_labelled own) (blocks_from label n insts)))
