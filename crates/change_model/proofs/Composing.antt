@@ -1,5 +1,5 @@
 -- Changes one after another.
-use Rattle.std.proofs.Common.{◌≡◌, ℕ, ◌≤◌, List, length, refl, ap, ◌∙◌, arith, Option, Some}
+use Rattle.std.proofs.Common.{ℕ, ◌≤◌, List, length, refl, ◌∙◌, arith, Option}
 use Rattle.spirv_model.specs.declared.module.Inst.{Inst}
 use Rattle.spirv_model.specs.declared.module.Words.{Words}
 use Rattle.spirv_model.specs.Module.{module_words}

@@ -1,5 +1,5 @@
 -- The constants that stand for specialization constants fit their types, and are read as they are written.
-use Rattle.std.proofs.Common.{◌≡◌, ℕ, zero, suc, ◌+◌, ◌<◌, ◌≤◌, ◌==◌, ◌&&◌, ◌||◌, ◌⊎◌, inl, inr, Bool, true, false, not, nat_lt, if◌then◌else◌, List, [], ◌∷◌, length, take, slice_index, refl, ap, sym, ◌∙◌, subst, arith, Option, None, Some}
+use Rattle.std.proofs.Common.{◌≡◌, ℕ, ◌<◌, ◌==◌, ◌&&◌, ◌||◌, ◌⊎◌, inl, inr, Bool, true, false, not, nat_lt, if◌then◌else◌, List, [], ◌∷◌, length, take, slice_index, refl, ap, sym, ◌∙◌, subst, arith, Option, None, Some}
 use Rattle.std.specs.Prelude.{is_some}
 use Rattle.std.specs.Option.{unwrap_or}
 use Rattle.std.specs.List.{list_all}
@@ -12,7 +12,6 @@ use Rattle.spirv_model.specs.declared.class.ScalarClass.TheVariants.{WordFromWor
 use Rattle.spirv_model.specs.declared.op.TheConstants as op
 use Rattle.spirv_model.specs.Operands.{word_at, words_from, entry_of, class_of, kinds, ids}
 use Rattle.state_model.specs.declared.parts.SpecValues.{SpecValues}
-use Rattle.body_model.specs.Grammar.{Derives}
 use Rattle.valid_model.specs.declared.meaning.Meaning.{Meaning}
 use Rattle.valid_model.specs.Definitions.{inst_at, id_out_of_bound}
 use Rattle.valid_model.specs.Knowledge.{Knowledge, constant_type, is_bool, is_constant_of, is_integer, meaning_in}

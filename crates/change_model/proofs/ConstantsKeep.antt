@@ -1,5 +1,5 @@
 -- With constants for its specialization constants a module does what it does with the entries, and whatever entries are given then.
-use Rattle.std.proofs.Common.{◌≡◌, ℕ, zero, suc, ◌+◌, ◌<◌, ◌≤◌, ◌==◌, ◌&&◌, Bool, true, false, List, [], ◌∷◌, ◌++◌, length, take, drop, slice_index, refl, ap, sym, ◌∙◌, subst, arith, take-append-drop, Option, None, Some}
+use Rattle.std.proofs.Common.{◌≡◌, ℕ, zero, suc, ◌+◌, ◌<◌, ◌≤◌, ◌==◌, ◌&&◌, Bool, true, false, List, [], ◌∷◌, ◌++◌, length, take, drop, slice_index, refl, ap, sym, ◌∙◌, arith, Option, None, Some}
 use Rattle.std.proofs.Math.Path.{fun_ext}
 use Rattle.std.proofs.Math.Seq.{take-append_seam}
 use Rattle.std.specs.Option.{option_map}
@@ -21,9 +21,8 @@ use Rattle.valid_model.specs.Meanings.{meaning}
 use Rattle.valid_model.specs.FirstFault.{type_fault}
 use Rattle.check_model.specs.Validity.{IsValidList}
 use Rattle.stage_model.specs.declared.inputs.Inputs.{Inputs}
-use Rattle.stage_model.specs.Value.{Layout}
 use Rattle.stage_model.specs.Program.{Program, layouts_by, program_of}
-use Rattle.stage_model.specs.Start.{Values, Memory, no_values, constant_of, with_definition, defined_by, first_memory}
+use Rattle.stage_model.specs.Start.{Values, Memory, no_values, with_definition, defined_by, first_memory}
 use Rattle.stage_model.specs.Machine.{State}
 use Rattle.stage_model.specs.Stage.{Given, is_number, is_output_with, output_with, start_at, stage}
 use Rattle.typed_model.proofs.ResultIds.{defined_id}
@@ -31,7 +30,7 @@ use Rattle.typed_model.proofs.RunningStart.{first_label_is}
 use Rattle.change_model.specs.Constants.{is_spec_id, is_spec_scalar, settled, constants}
 use Rattle.change_model.specs.Keeping.{given, KeepsOutcome}
 use Rattle.change_model.specs.Programs.{MeanSame, AreProgramsAlike}
-use Rattle.change_model.specs.Settling.{is_spec_class, all_settled}
+use Rattle.change_model.specs.Settling.{all_settled}
 use Rattle.change_model.proofs.Followed.{same_insts}
 use Rattle.change_model.proofs.SameFunction.{same_function_keeps}
 use Rattle.change_model.proofs.SameStarts.{memory_same}

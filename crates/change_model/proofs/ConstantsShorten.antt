@@ -1,5 +1,5 @@
 -- A module has no more words with constants for its specialization constants.
-use Rattle.std.proofs.Common.{◌≡◌, ℕ, zero, suc, ◌+◌, ◌*◌, ◌<◌, ◌≤◌, ◌==◌, ◌||◌, Bool, true, false, if◌then◌else◌, List, [], ◌∷◌, ◌++◌, length, take, refl, ap, sym, ◌∙◌, subst, arith, length-append, Option, None, Some}
+use Rattle.std.proofs.Common.{◌≡◌, ℕ, suc, ◌+◌, ◌<◌, ◌≤◌, ◌==◌, ◌||◌, Bool, true, false, if◌then◌else◌, List, [], ◌∷◌, length, take, refl, ap, sym, ◌∙◌, subst, arith, length-append, Option, None, Some}
 use Rattle.std.specs.Prelude.{is_some}
 use Rattle.std.specs.Option.{unwrap_or}
 use Rattle.std.specs.List.{flat_map}
@@ -155,6 +155,6 @@ constants_shorten words v entries =
     let s = valid_sound words v in
     let less : size (all_settled f insts) ≤ size insts =
     shorter f insts (λ k within. settled_short q entries at_end (defined_by q entries (take k insts)) (inst_at insts k) (s.shaped k within)
-        (λ is. value_at_end q entries words v.sound k within (own_result (inst_at insts k) is))) in
+    (λ is. value_at_end q entries words v.sound k within (own_result (inst_at insts k) is))) in
     let a = whole_size (all_settled f insts) words.bound in let b = whole_size insts words.bound in
     omega (arith, less, a, b)

@@ -1,5 +1,5 @@
 -- Ids, types, constants and decorations are sound with constants for the specialization constants.
-use Rattle.std.proofs.Common.{◌≡◌, ℕ, zero, suc, ◌+◌, ◌<◌, ◌≤◌, ◌==◌, ◌&&◌, ◌||◌, Bool, true, false, not, if◌then◌else◌, List, [], ◌∷◌, length, take, refl, ap, sym, ◌∙◌, subst, arith, Option, None, Some}
+use Rattle.std.proofs.Common.{◌≡◌, ℕ, zero, suc, ◌<◌, ◌≤◌, ◌&&◌, Bool, true, false, if◌then◌else◌, List, [], ◌∷◌, length, refl, ap, ◌∙◌, arith, Option, None, Some}
 use Rattle.std.specs.Prelude.{is_some}
 use Rattle.std.specs.Option.{option_or}
 use Rattle.std.specs.List.{list_all}
@@ -22,11 +22,11 @@ use Rattle.typed_model.proofs.ValidModules.{valid_sound}
 use Rattle.typed_model.proofs.ValidTypes.{none_of_both, no_first, keeps_decorations}
 use Rattle.change_model.specs.Constants.{is_spec_id, settled, constants, with_constants}
 use Rattle.change_model.specs.Settling.{all_settled}
-use Rattle.change_model.proofs.ConstantsFit.{IsSettledWell, settled_well, settled_unbroken, value_fits_there}
+use Rattle.change_model.proofs.ConstantsFit.{settled_well, settled_unbroken, value_fits_there}
 use Rattle.change_model.proofs.ConstantsShorten.{constants_shorten}
 use Rattle.change_model.proofs.ConstantsStand.{settled_stands}
 use Rattle.change_model.proofs.SettledDecorations.{decorations_settled}
-use Rattle.change_model.proofs.SettledPlaces.{PlaceOf, place_of, once_settled}
+use Rattle.change_model.proofs.SettledPlaces.{place_of, once_settled}
 use Rattle.change_model.proofs.SettledRules.{types_settled, constants_settled}
 use Rattle.change_model.proofs.Settlings.{settled_cons, settled_gone}
 

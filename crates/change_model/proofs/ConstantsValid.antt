@@ -1,22 +1,19 @@
 -- With constants for its specialization constants a valid module is a valid module with the same interface: the first change.
-use Rattle.std.proofs.Common.{◌≡◌, ℕ, zero, suc, ◌+◌, ◌-◌, ◌<◌, ◌≤◌, ◌==◌, ◌&&◌, ◌||◌, inl, inr, Bool, true, false, not, cond, nat_le, if◌then◌else◌, List, [], ◌∷◌, length, drop, map, refl, ap, sym, ◌∙◌, subst, arith, length-drop, Option, None, Some}
+use Rattle.std.proofs.Common.{◌≡◌, ℕ, zero, suc, ◌+◌, ◌-◌, ◌<◌, ◌==◌, ◌||◌, inl, inr, Bool, true, false, cond, nat_le, if◌then◌else◌, List, [], ◌∷◌, length, drop, map, refl, ap, sym, ◌∙◌, subst, arith, length-drop, Option, None, Some}
 use Rattle.std.proofs.Math.Path.{fun_ext}
 use Rattle.std.specs.Prelude.{filter}
 use Rattle.std.specs.Option.{option_map, option_and_then, option_or}
-use Rattle.std.specs.List.{find, list_any, range_with_len}
+use Rattle.std.specs.List.{list_any, range_with_len}
 use Rattle.std.proofs.lemmas.Bool.{cases_lt}
 use Rattle.limits.specs.declared.TheConstants.{LOCATIONS}
 use Rattle.spirv_model.specs.declared.module.Inst.{Inst}
 use Rattle.spirv_model.specs.declared.module.Words.{Words}
 use Rattle.spirv_model.specs.declared.op.TheConstants as op
 use Rattle.spirv_model.specs.declared.storage_class.TheConstants as storage_class
-use Rattle.spirv_model.specs.Operands.{word_at, entry_of, class_of}
+use Rattle.spirv_model.specs.Operands.{word_at}
 use Rattle.body_model.specs.Grammar.{Derives}
-use Rattle.body_model.proofs.Forward.{forward}
 use Rattle.state_model.specs.declared.iface.Slot.{Slot}
 use Rattle.state_model.specs.declared.parts.SpecValues.{SpecValues}
-use Rattle.valid_model.specs.Definitions.{inst_at}
-use Rattle.valid_model.specs.EarlierFacts.{is_variable_of}
 use Rattle.valid_model.specs.ModuleFacts.{ModuleFacts, facts_of, is_entry, is_vertex}
 use Rattle.valid_model.specs.FirstFault.{type_fault}
 use Rattle.check_model.specs.declared.fault.CheckFault.{CheckFault}
@@ -24,7 +21,7 @@ use Rattle.check_model.specs.declared.fault.CheckFault.TheVariants as fault
 use Rattle.check_model.specs.Intervals.{Interval, intervals_of}
 use Rattle.check_model.specs.Visibility.{not_visible}
 use Rattle.check_model.specs.EntryPoints.{entry_points, is_op_function, function_id, is_one_entry, bad_entry_count}
-use Rattle.check_model.specs.Interfaces.{is_variable_at, lowest_location, is_smooth, has_smooth_input, not_flat, are_two, location_twice, stage_of, slot_of_variable, slot_at, interface, inputs_of, outputs_of}
+use Rattle.check_model.specs.Interfaces.{is_variable_at, lowest_location, is_smooth, has_smooth_input, not_flat, are_two, location_twice, stage_of, slot_of_variable, slot_at, inputs_of, outputs_of}
 use Rattle.check_model.specs.Validity.{has_bad_operands, has_wrong_storage, use_fault_of, use_fault_at, first_use_fault, use_fault, list_fault, IsValidList}
 use Rattle.stage_model.specs.Program.{program_of}
 use Rattle.stage_model.specs.Start.{defined_by}
@@ -36,9 +33,9 @@ use Rattle.change_model.proofs.ConstantsShorten.{constants_shorten}
 use Rattle.change_model.proofs.ConstantsSound.{constants_sound, constants_written}
 use Rattle.change_model.proofs.ConstantsStand.{settled_stands}
 use Rattle.change_model.proofs.SettledBlocks.{function_visible}
-use Rattle.change_model.proofs.SettledBody.{HasBody, labels_differ, body_settled}
-use Rattle.change_model.proofs.SettledDecorations.{hidden, facts_settled, model_settled}
-use Rattle.change_model.proofs.SettledFunction.{first_of, settled_first, same_rest, function_settled}
+use Rattle.change_model.proofs.SettledBody.{labels_differ, body_settled}
+use Rattle.change_model.proofs.SettledDecorations.{hidden, facts_settled}
+use Rattle.change_model.proofs.SettledFunction.{first_of, settled_first, same_rest}
 use Rattle.change_model.proofs.SettledOperands.{operands_settled, storage_settled, other_function}
 use Rattle.change_model.proofs.SettledPlaces.{PlaceOf}
 use Rattle.change_model.proofs.SettledUses.{level_place, function_place}
@@ -80,7 +77,6 @@ entries_same f s insts =
 no_variable_at : (facts : ModuleFacts) (storage location : ℕ) (inst : Inst) → inst.op == op.VARIABLE ≡ false → is_variable_at facts storage location inst ≡ false
 no_variable_at facts storage location inst isnt = rw isnt refl
 
-
 flat_by : ModuleFacts → List Inst → Option ℕ
 flat_by facts insts = if is_vertex facts then None else lowest_location (has_smooth_input facts insts)
 
@@ -118,8 +114,8 @@ twice_same f s words sound =
     let h = hidden (facts_of insts) in
     twice_is new ∙ ap (λ (h : ModuleFacts). twice_by h new) (facts_settled f s words sound)
     ∙ ap lowest_location (fun_ext (λ location.
-        ap (λ (b : Bool). b || are_two h new storage_class.OUTPUT location) (two_same f s h insts storage_class.INPUT location)
-        ∙ ap (λ (b : Bool). are_two h insts storage_class.INPUT location || b) (two_same f s h insts storage_class.OUTPUT location)))
+    ap (λ (b : Bool). b || are_two h new storage_class.OUTPUT location) (two_same f s h insts storage_class.INPUT location)
+    ∙ ap (λ (b : Bool). are_two h insts storage_class.INPUT location || b) (two_same f s h insts storage_class.OUTPUT location)))
     ∙ sym (twice_is insts)
 
 slots_by : ModuleFacts → List Inst → ℕ → List (Option Slot)
@@ -141,7 +137,7 @@ slots_same f s words sound storage =
     let h = hidden (facts_of insts) in
     ap (λ (h : ModuleFacts). map (slot_at h new storage) (range_with_len 0 LOCATIONS)) (facts_settled f s words sound)
     ∙ ap (λ (t : ℕ → Option Slot). map t (range_with_len 0 LOCATIONS)) (fun_ext (λ location.
-        ap (option_and_then (slot_of_variable h)) (found_by_op f s op.VARIABLE other_variable refl (is_variable_at h storage location) (no_variable_at h storage location) insts)))
+    ap (option_and_then (slot_of_variable h)) (found_by_op f s op.VARIABLE other_variable refl (is_variable_at h storage location) (no_variable_at h storage location) insts)))
 
 vertex_is : (insts : List Inst) → is_vertex (facts_of insts) ≡ is_vertex (hidden (facts_of insts))
 unfolding hidden

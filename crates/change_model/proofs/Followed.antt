@@ -1,5 +1,5 @@
 -- A machine that follows another one ends as that one ends.
-use Rattle.std.proofs.Common.{◌≡◌, ℕ, zero, suc, ◌+◌, ◌-◌, ◌*◌, ◌<◌, ◌≤◌, ◌⊎◌, inl, inr, List, length, refl, ap, sym, ◌∙◌, subst, arith, Option, None, Some}
+use Rattle.std.proofs.Common.{◌≡◌, ℕ, zero, suc, ◌+◌, ◌-◌, ◌*◌, ◌<◌, ◌≤◌, inl, inr, List, length, refl, ap, sym, ◌∙◌, subst, arith, Option, None, Some}
 use Rattle.std.specs.Prelude.{IsSome}
 use Rattle.std.specs.Option.{option_map, option_and_then}
 use Rattle.std.proofs.Math.Nat.{suc-mul}
@@ -8,8 +8,8 @@ use Rattle.spirv_model.specs.declared.module.Inst.{Inst}
 use Rattle.stage_model.specs.declared.outcome.Kind.{Kind}
 use Rattle.stage_model.specs.Program.{Program, program_of}
 use Rattle.stage_model.specs.Machine.{State, Machine, Step, GoesOn, Ends, step, end_after, run}
-use Rattle.stage_model.specs.Steps.{Steps, stays, goes, IsStuck}
-use Rattle.stage_model.specs.Stage.{Given, Outcome, start_at, first_label, outcome_of, enough_steps, stage}
+use Rattle.stage_model.specs.Steps.{Steps, stays, goes}
+use Rattle.stage_model.specs.Stage.{Given, start_at, first_label, outcome_of, enough_steps, stage}
 use Rattle.stage_model.proofs.EnoughSteps.{EndsOrIsStuck, enough, steps_left}
 use Rattle.change_model.specs.Keeping.{IsKept, KeepsOutcome}
 use Rattle.change_model.specs.Following.{Moves, Round, returns, ends, stops, Follows}

@@ -1,13 +1,13 @@
 -- An instruction does the same in programs in which ids mean the same, with the same values and the same words of the variables that it reads.
-use Rattle.std.proofs.Common.{◌≡◌, ℕ, ◌==◌, Bool, true, false, List, [], ◌∷◌, ◌++◌, drop, map, slice_index, refl, ap, sym, ◌∙◌, Option, None, Some}
+use Rattle.std.proofs.Common.{◌≡◌, ℕ, List, [], ◌∷◌, ◌++◌, drop, slice_index, refl, ap, ◌∙◌, Option, None, Some}
 use Rattle.std.specs.Option.{option_map, option_and_then}
 use Rattle.spirv_model.specs.declared.module.Inst.{Inst}
 use Rattle.valid_model.specs.declared.meaning.Meaning.{Meaning}
-use Rattle.stage_model.specs.Value.{Value, Truth, Word, Composite, Pointer, Outside, Layout, part_along, words_of}
+use Rattle.stage_model.specs.Value.{Value, Truth, Word, Composite, Pointer, Outside, Layout, words_of}
 use Rattle.stage_model.specs.Program.{Program, held, held_layout}
 use Rattle.stage_model.specs.Start.{Memory}
-use Rattle.stage_model.specs.Effect.{Effect, place_of, loaded, stored, stores, all_words, pointer_along, chained, chain_of, one, result_of, effect_of}
-use Rattle.stage_model.specs.Machine.{Flow, State, after_effect, done, read_values}
+use Rattle.stage_model.specs.Effect.{place_of, loaded, stored, stores, all_words, chained, chain_of, one, result_of, effect_of}
+use Rattle.stage_model.specs.Machine.{State, after_effect, done, read_values}
 use Rattle.change_model.specs.Programs.{MeanSame}
 
 pub held_same : (p q : Program) → MeanSame p q → (variable : ℕ) → held_layout p variable ≡ held_layout q variable

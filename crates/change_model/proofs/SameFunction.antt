@@ -1,5 +1,5 @@
 -- The same function behind other instructions: the machine takes the same steps, at places that are so far apart.
-use Rattle.std.proofs.Common.{◌≡◌, ℕ, zero, suc, ◌+◌, ◌<◌, ◌≤◌, ◌==◌, ◌&&◌, Bool, true, false, nat_le, if◌then◌else◌, List, [], ◌∷◌, length, take, drop, slice_index, refl, ap, sym, ◌∙◌, subst, arith, Option, None, Some}
+use Rattle.std.proofs.Common.{◌≡◌, ℕ, zero, suc, ◌+◌, ◌<◌, ◌≤◌, ◌==◌, ◌&&◌, Bool, true, false, nat_le, if◌then◌else◌, List, [], ◌∷◌, length, drop, slice_index, refl, ap, sym, ◌∙◌, subst, arith, Option, None, Some}
 use Rattle.std.specs.Prelude.{slice_get}
 use Rattle.std.specs.Option.{option_map, option_and_then}
 use Rattle.std.proofs.lemmas.Bool.Decides.{nat_tests}
@@ -12,12 +12,12 @@ use Rattle.stage_model.specs.declared.outcome.Kind.{Kind}
 use Rattle.stage_model.specs.declared.outcome.Kind.TheVariants.{Lost}
 use Rattle.stage_model.specs.Program.{Program, is_label, first_label_place, program_of}
 use Rattle.stage_model.specs.Machine.{State, Flow, Next, To, Stopped, done, Machine, Step, GoesOn, Ends, at, back_to, jump, led, step}
-use Rattle.stage_model.specs.Steps.{Steps, stays, IsStuck}
+use Rattle.stage_model.specs.Steps.{stays}
 use Rattle.stage_model.specs.Leads.{machine}
 use Rattle.stage_model.specs.Stage.{Given, start_at, first_label, outcome_of, stage}
 use Rattle.stage_model.proofs.Comings.{one_step}
 use Rattle.change_model.specs.Keeping.{IsKept, KeepsOutcome}
-use Rattle.change_model.specs.Following.{Moves, Round, returns, ends, stops, Follows}
+use Rattle.change_model.specs.Following.{Round, returns, ends, stops, Follows}
 use Rattle.change_model.specs.Programs.{AreProgramsAlike}
 use Rattle.change_model.proofs.Composing.{kept_same}
 use Rattle.change_model.proofs.Followed.{same_insts, stage_followed}

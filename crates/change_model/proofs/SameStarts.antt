@@ -1,24 +1,21 @@
 -- Programs that are alike begin with the same words of variables, and leave the same outcome from the same state.
-use Rattle.std.proofs.Common.{◌≡◌, ℕ, ◌+◌, ◌/◌, ◌==◌, Bool, true, false, List, [], ◌∷◌, ◌++◌, map, slice_index, refl, ap, sym, ◌∙◌, Option, None, Some}
+use Rattle.std.proofs.Common.{◌≡◌, ℕ, ◌+◌, ◌==◌, false, List, [], ◌∷◌, map, refl, ap, ◌∙◌, Option, None, Some}
 use Rattle.std.proofs.Math.Path.{fun_ext}
-use Rattle.std.specs.Prelude.{slice_get}
-use Rattle.std.specs.Option.{option_map, option_and_then, unwrap_or}
 use Rattle.std.specs.List.{range_with_len}
 use Rattle.limits.specs.declared.TheConstants.{LOCATIONS}
 use Rattle.spirv_model.specs.declared.decoration.TheConstants.{SPEC_ID, ARRAY_STRIDE, BUILT_IN, LOCATION, BINDING, DESCRIPTOR_SET}
 use Rattle.spirv_model.specs.declared.builtin.TheConstants as builtin
 use Rattle.valid_model.specs.declared.meaning.Meaning.{Meaning}
-use Rattle.valid_model.specs.declared.meaning.Meaning.TheVariants.{Absent, Shape as OfShape, Constant, Variable, Value as OfValue, Label, Other}
+use Rattle.valid_model.specs.declared.meaning.Meaning.TheVariants.{Shape as OfShape, Variable}
 use Rattle.valid_model.specs.declared.meaning.Shape.{Shape}
-use Rattle.valid_model.specs.declared.meaning.Shape.TheVariants.{Void, Bool as OneBool, Int, BoolVector, IntVector, Array, Struct, Pointer, Function}
+use Rattle.valid_model.specs.declared.meaning.Shape.TheVariants.{Array, Struct}
 use Rattle.state_model.specs.declared.buffers.Buffers.{Buffers}
 use Rattle.stage_model.specs.declared.inputs.Inputs.{Inputs}
 use Rattle.stage_model.specs.declared.outcome.Kind.{Kind}
-use Rattle.stage_model.specs.Value.{Layout}
-use Rattle.stage_model.specs.Program.{Program, held, held_type, held_layout, component_offsets, shifted, member_offsets, members_offsets, offsets_in, block_offsets}
+use Rattle.stage_model.specs.Program.{Program, held, held_type, member_offsets, members_offsets, offsets_in, block_offsets}
 use Rattle.stage_model.specs.Start.{Memory, class_word, variable_word, first_memory}
 use Rattle.stage_model.specs.Machine.{State}
-use Rattle.stage_model.specs.Stage.{Outcome, output_with, size_in, components_left, position_left, slots_left, left_by, outcome_of}
+use Rattle.stage_model.specs.Stage.{output_with, components_left, position_left, slots_left, left_by, outcome_of}
 use Rattle.change_model.specs.Programs.{MeanSame, AreProgramsAlike}
 use Rattle.change_model.proofs.SameEffects.{held_same}
 

@@ -1,5 +1,5 @@
 -- In the function the same is visible, and phis name the same blocks.
-use Rattle.std.proofs.Common.{◌≡◌, ℕ, zero, suc, ◌+◌, ◌-◌, ◌<◌, ◌≤◌, ◌==◌, ◌&&◌, ◌||◌, Bool, true, false, not, cond, if◌then◌else◌, List, [], ◌∷◌, ◌++◌, length, take, drop, map, refl, ap, sym, ◌∙◌, subst, arith, Option, None, Some}
+use Rattle.std.proofs.Common.{◌≡◌, ℕ, ◌+◌, ◌<◌, ◌≤◌, ◌==◌, ◌||◌, Bool, true, false, not, cond, if◌then◌else◌, List, [], ◌∷◌, length, take, drop, map, refl, ap, sym, ◌∙◌, subst, arith, Option, None, Some}
 use Rattle.std.specs.Prelude.{filter}
 use Rattle.std.specs.Option.{option_map, unwrap_or}
 use Rattle.std.specs.List.{find}
@@ -14,14 +14,13 @@ use Rattle.valid_model.specs.Definitions.{inst_at, definition}
 use Rattle.check_model.specs.Intervals.{Interval, intervals_of}
 use Rattle.check_model.specs.Branches.{Block, blocks_from, blocks_of, leads_to, predecessors, is_labelled, block_end_of, label_behind}
 use Rattle.check_model.specs.Visibility.{Use, use_at, used_ids, Incoming, incoming, incoming_blocks, are_those, names_predecessors, incoming_use, phi_uses, uses_at, is_defined_for, is_visible_use, not_visible}
-use Rattle.typed_model.proofs.BlockParts.{another, clash}
 use Rattle.typed_model.proofs.ValidFunctions.{front_of}
 use Rattle.change_model.specs.Constants.{is_spec_id}
 use Rattle.change_model.specs.Settling.{is_spec_class, is_plain_constant_class, StandsFor, same, settles, all_settled}
-use Rattle.change_model.proofs.Settlings.{Settles, IsOther, by_op, settled_cons, settled_gone, gone_op, op_is}
-use Rattle.change_model.proofs.SettledFunction.{Stays, first_of, settled_first, same_rest, function_settled, other_label, stays_same, function_stays}
+use Rattle.change_model.proofs.Settlings.{Settles, by_op, settled_cons, settled_gone, gone_op, op_is}
+use Rattle.change_model.proofs.SettledFunction.{Stays, first_of, settled_first, function_settled, other_label, stays_same, function_stays}
 use Rattle.change_model.proofs.SettledPlaces.{PlaceOf}
-use Rattle.change_model.proofs.SettledUses.{function_place, blocks_later, blocks_behind, block_later, filter_later, find_later, NoEarlier, ends_behind, level_place}
+use Rattle.change_model.proofs.SettledUses.{blocks_later, blocks_behind, block_later, filter_later, find_later, NoEarlier, ends_behind, level_place}
 use Rattle.change_model.proofs.SettledVisible.{Sides, apart, first_apart, new_of, defined_later, found_same, without_phi}
 
 -- ---- blocks

@@ -1,8 +1,7 @@
 -- The function is structured as before where constants stand for specialization constants.
-use Rattle.std.proofs.Common.{◌≡◌, ℕ, zero, suc, ◌+◌, ◌-◌, ◌<◌, ◌≤◌, ◌==◌, ◌&&◌, ◌||◌, Bool, true, false, cond, List, [], ◌∷◌, ◌++◌, length, take, drop, get_or, append_assoc, slice_index, refl, ap, sym, ◌∙◌, subst, arith, length-append, length-drop, Option, None, Some}
+use Rattle.std.proofs.Common.{◌≡◌, ℕ, zero, suc, ◌+◌, ◌-◌, ◌<◌, ◌==◌, ◌||◌, Bool, true, false, cond, List, [], ◌∷◌, ◌++◌, length, take, drop, append_assoc, slice_index, refl, ap, sym, ◌∙◌, subst, arith, length-append, length-drop, Option, None, Some}
 use Rattle.std.specs.Prelude.{All, IsTrue, map, filter, slice_get}
-use Rattle.std.proofs.lemmas.Bool.Decides.{nat_tests}
-use Rattle.std.proofs.lemmas.List.{take_more, drop_more}
+use Rattle.std.proofs.lemmas.List.{take_more}
 use Rattle.std.proofs.lemmas.Option.{get_or_from_slice_get}
 use Rattle.std.proofs.lemmas.List.Elements.{All-nil, All-cons, All-head, All-tail, All-same}
 use Rattle.std.proofs.Math.Seq.{take-append_seam}
@@ -14,12 +13,11 @@ use Rattle.spirv_model.specs.declared.op.TheConstants as op
 use Rattle.spirv_model.specs.Operands.{word_at, entry_of, class_of, result}
 use Rattle.body_model.specs.Classes.{is_module_level_class, is_module_level}
 use Rattle.body_model.specs.Switches.{is_among, repeat}
-use Rattle.body_model.specs.Scope.{main}
-use Rattle.body_model.specs.Grammar.{Sequence, IsOp, Begins, Derives}
-use Rattle.body_model.specs.Code.{Code, printed, slice, code_of}
+use Rattle.body_model.specs.Grammar.{IsOp, Begins, Derives}
+use Rattle.body_model.specs.Code.{printed, code_of}
 use Rattle.body_model.specs.Fitting.{labels}
 use Rattle.body_model.proofs.CodeFits.{fits}
-use Rattle.body_model.proofs.CodeStands.{IsSequence, stands}
+use Rattle.body_model.proofs.CodeStands.{stands}
 use Rattle.body_model.proofs.Forward.{forward}
 use Rattle.body_model.proofs.Listings.{listed}
 use Rattle.body_model.proofs.ModuleLevels.{within_list}
@@ -31,7 +29,7 @@ use Rattle.typed_model.proofs.FunctionParts.{last_of}
 use Rattle.typed_model.proofs.ModuleValues.{defined_at}
 use Rattle.typed_model.proofs.ValidTypes.{keeps_rules}
 use Rattle.change_model.specs.Constants.{is_spec_id}
-use Rattle.change_model.specs.Settling.{is_spec_class, is_plain_constant_class, StandsFor, same, settles, all_settled}
+use Rattle.change_model.specs.Settling.{is_plain_constant_class, StandsFor, same, settles, all_settled}
 use Rattle.change_model.proofs.Settlings.{Settles, settled_cons, settled_gone, op_is}
 use Rattle.change_model.proofs.SettledFunction.{Stays, unchanged, settled_append, first_of, settled_first, parts_settled, same_rest}
 

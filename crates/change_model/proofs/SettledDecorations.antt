@@ -1,20 +1,18 @@
 -- Decorations and variables are allowed as before, where constants stand for specialization constants and these have no numbers.
-use Rattle.std.proofs.Common.{◌≡◌, ℕ, zero, suc, ◌+◌, ◌<◌, ◌≤◌, ◌==◌, ◌&&◌, ◌||◌, Bool, true, false, not, if◌then◌else◌, List, [], ◌∷◌, length, take, refl, ap, sym, ◌∙◌, subst, arith, Option, None, Some}
+use Rattle.std.proofs.Common.{◌≡◌, ℕ, ◌==◌, ◌&&◌, Bool, true, false, if◌then◌else◌, List, length, take, refl, ap, sym, ◌∙◌, Option, None}
 use Rattle.std.proofs.Math.Path.{fun_ext}
-use Rattle.std.specs.Prelude.{is_some}
 use Rattle.std.specs.Option.{option_map}
-use Rattle.std.specs.List.{find, list_any}
+use Rattle.std.specs.List.{list_any}
 use Rattle.spirv_model.specs.declared.module.Inst.{Inst}
 use Rattle.spirv_model.specs.declared.module.Words.{Words}
 use Rattle.spirv_model.specs.declared.op.TheConstants as op
-use Rattle.spirv_model.specs.declared.decoration.TheConstants.{SPEC_ID, BINDING, DESCRIPTOR_SET, BUILT_IN}
+use Rattle.spirv_model.specs.declared.decoration.TheConstants.{SPEC_ID}
 use Rattle.spirv_model.specs.declared.storage_class.TheConstants as storage_class
-use Rattle.spirv_model.specs.declared.builtin.TheConstants as builtin
 use Rattle.spirv_model.specs.Operands.{word_at, entry_of, class_of}
 use Rattle.valid_model.specs.declared.meaning.Meaning.{Meaning}
 use Rattle.valid_model.specs.Definitions.{inst_at}
 use Rattle.valid_model.specs.Meanings.{meaning}
-use Rattle.valid_model.specs.ModuleFacts.{ModuleFacts, facts_of, is_entry, model_of, has_position, is_word}
+use Rattle.valid_model.specs.ModuleFacts.{ModuleFacts, facts_of, is_entry, model_of}
 use Rattle.valid_model.specs.EarlierFacts.{EarlierFacts, before_of, is_variable_of, has_slot, is_position_variable}
 use Rattle.valid_model.specs.DecorationWords.{decorates, decoration_of, places_member, offset_of}
 use Rattle.valid_model.specs.Variables.{bad_variable}
@@ -148,7 +146,7 @@ before_by_facts : (new old : ModuleFacts) → hidden new ≡ hidden old → (ins
 before_by_facts new old is insts =
     before_are new insts
     ∙ ap (λ (h : ModuleFacts). before_as (λ id decoration. if decoration == SPEC_ID then false else list_any (decorates id decoration) insts) (λ id member. list_any (places_member id member) insts)
-        (λ set binding. list_any (has_slot h set binding) insts) (list_any (is_variable_of storage_class.PUSH_CONSTANT) insts) (list_any (is_position_variable h) insts)) is
+    (λ set binding. list_any (has_slot h set binding) insts) (list_any (is_variable_of storage_class.PUSH_CONSTANT) insts) (list_any (is_position_variable h) insts)) is
     ∙ sym (before_are old insts)
 
 -- ---- at a place

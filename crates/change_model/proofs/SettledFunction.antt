@@ -1,5 +1,5 @@
 -- The function stands as it was where constants stand for specialization constants.
-use Rattle.std.proofs.Common.{◌≡◌, ℕ, zero, suc, ◌+◌, ◌<◌, ◌≤◌, ◌==◌, ◌&&◌, ◌||◌, inl, inr, Bool, true, false, nat_lt, if◌then◌else◌, List, [], ◌∷◌, ◌++◌, length, take, drop, get_or, refl, ap, sym, ◌∙◌, subst, arith, length-append, length-drop, take-append-drop, Option, None, Some}
+use Rattle.std.proofs.Common.{◌≡◌, ℕ, suc, ◌+◌, ◌<◌, ◌≤◌, ◌==◌, ◌&&◌, ◌||◌, inl, inr, Bool, true, false, nat_lt, if◌then◌else◌, List, [], ◌∷◌, ◌++◌, length, take, drop, get_or, refl, ap, sym, ◌∙◌, subst, arith, length-append, length-drop, take-append-drop, Option, None, Some}
 use Rattle.std.specs.Prelude.{slice_get}
 use Rattle.std.specs.List.{list_any}
 use Rattle.std.proofs.lemmas.Bool.{cases_lt, lt-ltb}
@@ -21,12 +21,12 @@ use Rattle.valid_model.specs.Definitions.{inst_at, no_instruction}
 use Rattle.stage_model.specs.Stage.{first_label}
 use Rattle.typed_model.proofs.BlockParts.{BlockPart, a_label, a_phi, a_variable, a_selection_merge, a_loop_merge, a_plain_one, a_terminator, another, clash}
 use Rattle.typed_model.proofs.FunctionRuns.{part_at}
-use Rattle.typed_model.proofs.RunningStart.{first_label_is, starts_with_label}
+use Rattle.typed_model.proofs.RunningStart.{starts_with_label}
 use Rattle.typed_model.proofs.ValidFunctions.{front_of}
 use Rattle.change_model.specs.Constants.{is_spec_id}
 use Rattle.change_model.specs.Settling.{is_spec_class, StandsFor, same, settles, all_settled}
 use Rattle.change_model.proofs.SameFunction.{HaveSameFunction}
-use Rattle.change_model.proofs.Settlings.{Settles, IsOther, IsKeptTest, kept_by_op, any_settled, settled_cons, settled_gone, op_is}
+use Rattle.change_model.proofs.Settlings.{Settles, IsOther, kept_by_op, any_settled, settled_cons, settled_gone, op_is}
 
 -- ---- instructions that stay
 

@@ -1,6 +1,5 @@
 -- Operands have the types that are asked, and nothing is stored where it may not be, where constants stand for specialization constants.
-use Rattle.std.proofs.Common.{◌≡◌, ℕ, zero, suc, ◌+◌, ◌<◌, ◌==◌, ◌&&◌, ◌||◌, Bool, true, false, not, if◌then◌else◌, List, [], ◌∷◌, take, refl, ap, sym, ◌∙◌, subst, Option, None, Some}
-use Rattle.std.specs.Prelude.{slice_get}
+use Rattle.std.proofs.Common.{◌≡◌, ℕ, ◌==◌, ◌&&◌, Bool, true, false, not, if◌then◌else◌, List, [], ◌∷◌, take, refl, ap, sym, ◌∙◌, Option, None, Some}
 use Rattle.std.specs.Option.{option_map, option_and_then}
 use Rattle.std.specs.List.{find, list_any}
 use Rattle.spirv_model.specs.declared.module.Inst.{Inst}
@@ -31,7 +30,7 @@ use Rattle.check_model.specs.Storage.{is_in_function, is_wrong_storage}
 use Rattle.check_model.specs.Validity.{has_bad_operands, has_wrong_storage}
 use Rattle.typed_model.proofs.BlockParts.{another, clash}
 use Rattle.change_model.specs.Settling.{is_spec_class, is_plain_constant_class, StandsFor, same, settles, all_settled}
-use Rattle.change_model.proofs.Settlings.{Settles, IsOther, kept_by_op, any_settled, find_settled, op_is}
+use Rattle.change_model.proofs.Settlings.{Settles, IsOther, kept_by_op, any_settled, find_settled}
 use Rattle.change_model.proofs.SettledDecorations.{model_settled}
 use Rattle.change_model.proofs.SettledMeanings.{meaning_settled}
 use Rattle.change_model.proofs.SettledPlaces.{PlaceOf, gives_kept}

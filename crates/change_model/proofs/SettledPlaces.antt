@@ -1,13 +1,11 @@
 -- Which place of the old list a place of the new one is, where constants stand for specialization constants.
-use Rattle.std.proofs.Common.{◌≡◌, ℕ, zero, suc, ◌+◌, ◌<◌, ◌≤◌, ◌&&◌, ◌||◌, Bool, true, false, not, nat_lt, if◌then◌else◌, List, [], ◌∷◌, ◌++◌, length, take, refl, ap, sym, ◌∙◌, subst, arith, Option, None, Some}
+use Rattle.std.proofs.Common.{◌≡◌, ℕ, zero, suc, ◌<◌, ◌≤◌, ◌||◌, Bool, true, false, nat_lt, if◌then◌else◌, List, [], ◌∷◌, length, take, refl, ap, sym, ◌∙◌, subst, arith, Option, None, Some}
 use Rattle.std.specs.Option.{option_map}
-use Rattle.std.specs.List.{find, list_any}
+use Rattle.std.specs.List.{list_any}
 use Rattle.std.proofs.lemmas.Bool.Decides.{nat_tests}
-use Rattle.std.proofs.lemmas.List.{take_more}
-use Rattle.std.proofs.lemmas.List.Folds.{list_any-append}
 use Rattle.spirv_model.specs.declared.module.Inst.{Inst}
 use Rattle.spirv_model.specs.Operands.{result}
-use Rattle.valid_model.specs.Definitions.{gives, inst_at, no_instruction, definition, is_earlier, twice_by, id_twice}
+use Rattle.valid_model.specs.Definitions.{gives, inst_at, definition, is_earlier, twice_by, id_twice}
 use Rattle.change_model.specs.Constants.{is_spec_id}
 use Rattle.change_model.specs.Settling.{all_settled}
 use Rattle.change_model.proofs.Settlings.{Settles, IsKeptTest, any_settled, settled_cons, settled_gone, result_same, gives_same, gone_gives}

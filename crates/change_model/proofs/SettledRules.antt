@@ -1,36 +1,30 @@
 -- Ids, types and constants are sound where constants stand for specialization constants.
-use Rattle.std.proofs.Common.{◌≡◌, ℕ, zero, suc, ◌+◌, ◌<◌, ◌≤◌, ◌==◌, ◌&&◌, ◌||◌, Bool, true, false, not, nat_lt, if◌then◌else◌, List, [], ◌∷◌, ◌++◌, length, take, refl, ap, sym, ◌∙◌, subst, arith, Option, None, Some}
+use Rattle.std.proofs.Common.{◌≡◌, ℕ, zero, suc, ◌+◌, ◌<◌, ◌≤◌, ◌&&◌, ◌||◌, Bool, true, false, not, nat_lt, if◌then◌else◌, List, [], ◌∷◌, length, take, refl, ap, sym, ◌∙◌, subst, arith, Option, None, Some}
 use Rattle.std.proofs.Math.Path.{fun_ext}
-use Rattle.std.specs.Prelude.{is_none, is_some}
-use Rattle.std.specs.Option.{option_map, option_or}
+use Rattle.std.specs.Option.{option_map}
 use Rattle.std.specs.List.{fold, find, list_any, list_all}
 use Rattle.std.proofs.lemmas.Bool.Decides.{nat_tests}
 use Rattle.std.proofs.lemmas.List.{take_more, get_or-take, length-take-le}
 use Rattle.std.proofs.lemmas.List.Folds.{list_any-append}
 use Rattle.spirv_model.specs.declared.module.Inst.{Inst}
 use Rattle.spirv_model.specs.declared.module.Words.{Words}
-use Rattle.spirv_model.specs.declared.class.Class.{Class}
-use Rattle.spirv_model.specs.declared.class.Class.TheVariants as class
 use Rattle.spirv_model.specs.declared.op.TheConstants as op
 use Rattle.spirv_model.specs.declared.table.TheConstants.{ROWS}
 use Rattle.spirv_model.specs.declared.table.Entry.{Entry}
 use Rattle.spirv_model.specs.declared.table.Entry.TheVariants.{Skipped, Float, Listed}
-use Rattle.spirv_model.specs.Operands.{word_at, entry_of, class_in, class_of, listed_of, kinds}
+use Rattle.spirv_model.specs.Operands.{word_at, entry_of, class_in, class_of, listed_of}
 use Rattle.valid_model.specs.declared.meaning.Meaning.{Meaning}
-use Rattle.valid_model.specs.declared.type_fault.TypeFault.{TypeFault}
-use Rattle.valid_model.specs.Definitions.{gives, inst_at, no_instruction, definition, is_earlier, id_out_of_bound}
+use Rattle.valid_model.specs.Definitions.{gives, inst_at, no_instruction, definition, is_earlier}
 use Rattle.valid_model.specs.Knowledge.{Knowledge, means, meaning_in, nothing_known}
-use Rattle.valid_model.specs.Types.{is_type, type_of, is_result_type, result_type_in, result_type, breaks_types, is_type_after, is_later_type, has_later_type}
+use Rattle.valid_model.specs.Types.{is_type, is_result_type, result_type_in, result_type, breaks_types, is_type_after, is_later_type, has_later_type}
 use Rattle.valid_model.specs.Constants.{constant_fits, breaks_constants}
 use Rattle.valid_model.specs.Meanings.{is_constant, known_after, known_by, known_before}
-use Rattle.valid_model.specs.FirstFault.{bad_type, bad_constant, fault_of, first_fault}
-use Rattle.typed_model.proofs.BlockParts.{another, clash}
+use Rattle.valid_model.specs.FirstFault.{bad_type, bad_constant}
+use Rattle.typed_model.proofs.BlockParts.{another}
 use Rattle.typed_model.proofs.ResultIds.{in_rows}
-use Rattle.typed_model.proofs.ValidTypes.{keeps_rules}
-use Rattle.change_model.specs.Constants.{is_spec_id}
 use Rattle.change_model.specs.Settling.{is_spec_class, is_plain_constant_class, StandsFor, same, settles, all_settled}
 use Rattle.change_model.proofs.Settlings.{Settles, any_settled, find_settled, gives_same}
-use Rattle.change_model.proofs.SettledMeanings.{KnowsAs, known_itself, type_same, known_settled, constant_is_no_type, allowed_type, all_allowed, spec_is_no_type}
+use Rattle.change_model.proofs.SettledMeanings.{KnowsAs, known_itself, type_same, known_settled, constant_is_no_type, allowed_type, spec_is_no_type}
 use Rattle.change_model.proofs.SettledPlaces.{PlaceOf, earlier_is, gives_kept}
 
 -- ---- what is known before a place
@@ -48,11 +42,11 @@ knows_before f s words sound place p =
     let insts = words.insts in
     subst (λ (l : List Inst). KnowsAs (fold known_after nothing_known l) (fold known_after nothing_known (take p.old insts))) (sym p.front)
     (known_settled f s (take p.old insts) nothing_known nothing_known (λ id. known_itself None) (λ k within.
-        let long = length-take-le p.old insts in let w = p.within in
-        let less : k < p.old = omega (arith, within, long, w) in
-        ap (λ (l : List Inst). breaks_types (fold known_after nothing_known l) (inst_at (take p.old insts) k)) (take_take k p.old insts (omega (arith, less)))
-        ∙ ap (breaks_types (fold known_after nothing_known (take k insts))) (get_or-take p.old insts k no_instruction less)
-        ∙ sound k (omega (arith, less, w))))
+    let long = length-take-le p.old insts in let w = p.within in
+    let less : k < p.old = omega (arith, within, long, w) in
+    ap (λ (l : List Inst). breaks_types (fold known_after nothing_known l) (inst_at (take p.old insts) k)) (take_take k p.old insts (omega (arith, less)))
+    ∙ ap (breaks_types (fold known_after nothing_known (take k insts))) (get_or-take p.old insts k no_instruction less)
+    ∙ sound k (omega (arith, less, w))))
 
 -- ---- types
 

@@ -1,10 +1,8 @@
 -- What is used is visible where constants stand for specialization constants.
-use Rattle.std.proofs.Common.{◌≡◌, ℕ, zero, suc, ◌+◌, ◌-◌, ◌<◌, ◌≤◌, ◌==◌, ◌&&◌, ◌||◌, ◌⊎◌, inl, inr, Bool, true, false, not, cond, nat_lt, if◌then◌else◌, List, [], ◌∷◌, ◌++◌, length, take, drop, map, refl, ap, sym, ◌∙◌, subst, arith, length-append, length-drop, take-append-drop, Option, None, Some}
+use Rattle.std.proofs.Common.{◌≡◌, ℕ, zero, suc, ◌+◌, ◌<◌, ◌≤◌, ◌==◌, Bool, true, false, cond, if◌then◌else◌, List, [], ◌∷◌, ◌++◌, length, take, drop, map, refl, ap, sym, ◌∙◌, subst, arith, length-drop, take-append-drop, Option, None, Some}
 use Rattle.std.specs.Prelude.{filter}
-use Rattle.std.specs.Option.{option_map, unwrap_or}
-use Rattle.std.specs.List.{find, list_any}
-use Rattle.std.proofs.lemmas.Bool.{cases_lt, lt-ltb}
-use Rattle.std.proofs.lemmas.Bool.Decides.{nat_tests}
+use Rattle.std.specs.Option.{option_map}
+use Rattle.std.specs.List.{find}
 use Rattle.std.proofs.lemmas.List.{get_or-take, get_or-drop, get_or_append_left, get_or-append-add, take-append-le, length-take-le}
 use Rattle.std.proofs.Math.Seq.{take-append-add}
 use Rattle.spirv_model.specs.declared.module.Inst.{Inst}
@@ -13,15 +11,13 @@ use Rattle.spirv_model.specs.Operands.{word_at}
 use Rattle.body_model.specs.Classes.{is_terminator}
 use Rattle.body_model.specs.Targets.{targets}
 use Rattle.body_model.specs.Grammar.{Derives}
-use Rattle.valid_model.specs.Definitions.{gives, inst_at, no_instruction, definition, is_earlier}
-use Rattle.check_model.specs.Intervals.{Interval, is_visible, intervals_of}
-use Rattle.check_model.specs.Branches.{Block, blocks_from, blocks_of, leads_to, predecessors, is_labelled, block_end_of, label_behind}
-use Rattle.check_model.specs.Visibility.{is_defined_for}
+use Rattle.valid_model.specs.Definitions.{inst_at, no_instruction}
+use Rattle.check_model.specs.Branches.{Block, blocks_from, leads_to, is_labelled}
 use Rattle.change_model.specs.Constants.{is_spec_id}
 use Rattle.change_model.specs.Settling.{all_settled}
-use Rattle.change_model.proofs.LaterIntervals.{later, visible_later}
-use Rattle.change_model.proofs.Settlings.{Settles, settled_cons, settled_gone}
-use Rattle.change_model.proofs.SettledFunction.{Stays, first_of, settled_first, settled_append, parts_settled, unchanged, function_stays, same_rest, stays_same, stays_kept, rest_unchanged, old_front, new_front, function_settled}
+use Rattle.change_model.proofs.LaterIntervals.{later}
+use Rattle.change_model.proofs.Settlings.{Settles}
+use Rattle.change_model.proofs.SettledFunction.{Stays, first_of, settled_first, settled_append, parts_settled, unchanged, function_stays, stays_same, stays_kept, function_settled}
 use Rattle.change_model.proofs.SettledPlaces.{PlaceOf, place_of}
 use Rattle.change_model.proofs.SettledRules.{take_take}
 
@@ -35,16 +31,18 @@ level_place f s insts d place within =
     let q = place_of f level place within in
     let long = length-take-le (first_of insts d) insts in
     let w = (function_settled f s insts d).within' in
-    let less : q.old < first_of insts d = (let a = q.within in omega (arith, a, long, w)) in
-    (record {
-      old = q.old;
-      within = omega (arith, less, w);
-      stays = ap is_spec_id (sym (get_or-take (first_of insts d) insts q.old no_instruction less)) ∙ q.stays;
-      front = ap (take place) (parts_settled f s insts d) ∙ take-append-le place (all_settled f level) rest (omega (arith, within)) ∙ q.front
-          ∙ ap (all_settled f) (take_take q.old (first_of insts d) insts (omega (arith, less)));
-      inst = ap (λ (l : List Inst). inst_at l place) (parts_settled f s insts d) ∙ get_or_append_left (all_settled f level) rest no_instruction place within ∙ q.inst
-          ∙ ap f (get_or-take (first_of insts d) insts q.old no_instruction less);
-    }, less)
+    let less : q.old < first_of insts d = (let a = q.within in omega (arith, a, long, w)) in (
+      record {
+        old = q.old;
+        within = omega (arith, less, w);
+        stays = ap is_spec_id (sym (get_or-take (first_of insts d) insts q.old no_instruction less)) ∙ q.stays;
+        front = ap (take place) (parts_settled f s insts d) ∙ take-append-le place (all_settled f level) rest (omega (arith, within)) ∙ q.front
+            ∙ ap (all_settled f) (take_take q.old (first_of insts d) insts (omega (arith, less)));
+        inst = ap (λ (l : List Inst). inst_at l place) (parts_settled f s insts d) ∙ get_or_append_left (all_settled f level) rest no_instruction place within ∙ q.inst
+            ∙ ap f (get_or-take (first_of insts d) insts q.old no_instruction less);
+      },
+      less,
+    )
 
 take_rest : (insts : List Inst) (n far : ℕ) → n ≤ length insts → take (n + far) insts ≡ take n insts ++ take far (drop n insts)
 take_rest insts n far within =
@@ -62,19 +60,21 @@ function_place f s insts d far within =
     let inst = inst_at insts (first + far) in
     let e = length-drop first insts in
     let front_rest : all_settled f (take far rest) ≡ take far rest = unchanged f s (take far rest) (λ k less.
-        let long = length-take-le far rest in
-        let early : k < far = omega (arith, less, long, e, within) in
-        subst (λ (i : Inst). Stays i.op) (sym (get_or-take far rest k no_instruction early ∙ get_or-drop first insts k no_instruction)) (function_stays insts d (first + k) (omega arith) (omega (arith, early, within)))) in
-    (record {
-      old = first + far;
-      within = within;
-      stays = stays_kept inst here;
-      front = ap (take (settled_first f insts d + far)) (parts_settled f s insts d) ∙ take-append-add level rest far
-          ∙ ap (λ (l : List Inst). level ++ l) (sym front_rest) ∙ sym (settled_append f (take first insts) (take far rest))
-          ∙ ap (all_settled f) (sym (take_rest insts first far (omega (arith, within))));
-      inst = ap (λ (l : List Inst). inst_at l (settled_first f insts d + far)) (parts_settled f s insts d) ∙ get_or-append-add level rest far no_instruction
-          ∙ get_or-drop first insts far no_instruction ∙ sym (stays_same (f inst) inst (s inst) here);
-    }, refl)
+    let long = length-take-le far rest in
+    let early : k < far = omega (arith, less, long, e, within) in
+    subst (λ (i : Inst). Stays i.op) (sym (get_or-take far rest k no_instruction early ∙ get_or-drop first insts k no_instruction)) (function_stays insts d (first + k) (omega arith) (omega (arith, early, within)))) in (
+      record {
+        old = first + far;
+        within = within;
+        stays = stays_kept inst here;
+        front = ap (take (settled_first f insts d + far)) (parts_settled f s insts d) ∙ take-append-add level rest far
+            ∙ ap (λ (l : List Inst). level ++ l) (sym front_rest) ∙ sym (settled_append f (take first insts) (take far rest))
+            ∙ ap (all_settled f) (sym (take_rest insts first far (omega (arith, within))));
+        inst = ap (λ (l : List Inst). inst_at l (settled_first f insts d + far)) (parts_settled f s insts d) ∙ get_or-append-add level rest far no_instruction
+            ∙ get_or-drop first insts far no_instruction ∙ sym (stays_same (f inst) inst (s inst) here);
+      },
+      refl,
+    )
 
 -- ---- blocks
 

@@ -1,16 +1,12 @@
 -- At the function's first label ids have the values on both sides that specialization gives them on the old one.
-use Rattle.std.proofs.Common.{◌≡◌, ℕ, zero, suc, ◌+◌, ◌<◌, ◌≤◌, ◌==◌, ◌&&◌, ◌||◌, inl, inr, Bool, true, false, not, if◌then◌else◌, List, [], ◌∷◌, ◌++◌, length, take, drop, get_or, slice_index, refl, ap, sym, ◌∙◌, subst, arith, length-drop, take-append-drop, Option, None, Some}
-use Rattle.std.specs.Prelude.{is_some}
+use Rattle.std.proofs.Common.{◌≡◌, ℕ, suc, ◌+◌, ◌<◌, ◌==◌, ◌||◌, Bool, true, false, if◌then◌else◌, List, [], ◌∷◌, length, take, drop, slice_index, refl, ap, sym, ◌∙◌, subst, arith, length-drop, take-append-drop, Option, None, Some}
 use Rattle.std.specs.Option.{option_map, option_and_then, unwrap_or}
 use Rattle.std.specs.List.{fold}
-use Rattle.std.proofs.lemmas.Bool.{cases_lt}
 use Rattle.std.proofs.lemmas.Bool.Decides.{nat_tests}
-use Rattle.std.proofs.lemmas.List.{take_more, get_or-drop, get_or-take, length-take-le}
+use Rattle.std.proofs.lemmas.List.{get_or-drop, get_or-take, length-take-le}
 use Rattle.std.proofs.lemmas.List.Sums.{fold-append}
 use Rattle.spirv_model.specs.declared.module.Inst.{Inst}
 use Rattle.spirv_model.specs.declared.module.Words.{Words}
-use Rattle.spirv_model.specs.declared.class.Class.{Class}
-use Rattle.spirv_model.specs.declared.class.Class.TheVariants as class
 use Rattle.spirv_model.specs.declared.op.TheConstants as op
 use Rattle.spirv_model.specs.Operands.{word_at, entry_of, class_of, result}
 use Rattle.scalar_model.specs.declared.scalar_value.Scalar.{Scalar}
@@ -19,18 +15,16 @@ use Rattle.scalar_model.specs.Scalars.{scalar_result}
 use Rattle.state_model.specs.declared.parts.SpecValues.{SpecValues}
 use Rattle.valid_model.specs.Definitions.{has_result, gives, inst_at, no_instruction, definition}
 use Rattle.valid_model.specs.FirstFault.{type_fault}
-use Rattle.stage_model.specs.Value.{Value, Truth, Word, Composite, Pointer, Outside, Layout, zero_of, parts_from}
+use Rattle.stage_model.specs.Value.{Value, Truth, Word, Composite, Pointer, Outside, Layout}
 use Rattle.stage_model.specs.Program.{Program}
 use Rattle.stage_model.specs.Start.{Values, no_values, with_value, all_values, of_scalar, all_scalars, scalar_value, constant_of, with_definition, defined_by, rest_of}
-use Rattle.typed_model.proofs.BlockParts.{another, clash}
+use Rattle.typed_model.proofs.BlockParts.{clash}
 use Rattle.typed_model.proofs.ModuleValues.{defined_at, defined_next, with_one, with_none}
 use Rattle.typed_model.proofs.ResultIds.{defines, defined_id}
 use Rattle.typed_model.proofs.SilentSteps.{given_id}
 use Rattle.typed_model.proofs.ValidTypes.{keeps_rules}
-use Rattle.change_model.specs.Constants.{is_spec_id, scalar_constant, is_spec_scalar, settled}
-use Rattle.change_model.specs.Settling.{all_settled}
-use Rattle.change_model.proofs.Settlings.{op_is, gone_op, settled_cons, settled_gone}
-use Rattle.change_model.proofs.SettledFunction.{settled_append}
+use Rattle.change_model.specs.Constants.{scalar_constant, is_spec_scalar, settled}
+use Rattle.change_model.proofs.Settlings.{op_is}
 
 -- ---- instructions that give no value
 
@@ -140,15 +134,15 @@ value_at_end program entries words sound n within is =
     let before = defined_by program entries (take n insts) in
     ap (λ (v : Values). v id) (by_parts program entries insts (n + 1))
     ∙ values_stay program entries (drop (n + 1) insts) (defined_by program entries (take (n + 1) insts)) id (λ k less.
-        ap (gives id) (get_or-drop (n + 1) insts k no_instruction)
-        ∙ only_there words sound n (n + 1 + k) id within (let e = length-drop (n + 1) insts in omega (arith, less, e)) is (λ same. absurd (omega (arith, same))))
+    ap (gives id) (get_or-drop (n + 1) insts k no_instruction)
+    ∙ only_there words sound n (n + 1 + k) id within (let e = length-drop (n + 1) insts in omega (arith, less, e)) is (λ same. absurd (omega (arith, same))))
     ∙ ap (λ (v : Values). v id) (defined_next insts program entries n within)
     ∙ own_value program entries before inst (constant_of program entries before inst.op inst.words) refl
     (none_before program entries (take n insts) id (λ k less.
-        let long = length-take-le n insts in
-        let early : k < n = omega (arith, less, long, within) in
-        ap (gives id) (get_or-take n insts k no_instruction early)
-        ∙ only_there words sound n k id within (omega (arith, early, within)) is (λ same. absurd (omega (arith, same, early)))))
+    let long = length-take-le n insts in
+    let early : k < n = omega (arith, less, long, within) in
+    ap (gives id) (get_or-take n insts k no_instruction early)
+    ∙ only_there words sound n k id within (omega (arith, early, within)) is (λ same. absurd (omega (arith, same, early)))))
 
 -- ---- the same value on both sides
 

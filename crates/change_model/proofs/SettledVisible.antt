@@ -1,26 +1,24 @@
 -- What is visible at a place of the new list is what is visible at that of the old one.
-use Rattle.std.proofs.Common.{◌≡◌, ℕ, zero, suc, ◌+◌, ◌-◌, ◌<◌, ◌≤◌, ◌==◌, ◌&&◌, ◌||◌, inl, inr, Bool, true, false, not, cond, nat_lt, if◌then◌else◌, List, [], ◌∷◌, ◌++◌, length, take, drop, map, refl, ap, sym, ◌∙◌, subst, arith, length-drop, Option, None, Some}
-use Rattle.std.specs.Prelude.{filter}
-use Rattle.std.specs.Option.{option_map, unwrap_or}
-use Rattle.std.specs.List.{find, list_any}
-use Rattle.std.proofs.lemmas.Bool.{cases_lt, lt-ltb, ltb-true}
+use Rattle.std.proofs.Common.{◌≡◌, ℕ, zero, suc, ◌+◌, ◌-◌, ◌<◌, ◌≤◌, ◌==◌, ◌||◌, inl, Bool, true, false, not, cond, nat_lt, if◌then◌else◌, List, [], ◌∷◌, length, take, drop, map, refl, ap, sym, ◌∙◌, arith, length-drop, Option, None, Some}
+use Rattle.std.specs.Option.{option_map}
+use Rattle.std.specs.List.{find}
+use Rattle.std.proofs.lemmas.Bool.{lt-ltb, ltb-true}
 use Rattle.std.proofs.lemmas.Bool.Decides.{nat_tests}
 use Rattle.std.proofs.lemmas.List.{length-take-le}
 use Rattle.spirv_model.specs.declared.module.Inst.{Inst}
 use Rattle.spirv_model.specs.declared.class.Class.{Class}
 use Rattle.spirv_model.specs.declared.class.Class.TheVariants as class
 use Rattle.spirv_model.specs.declared.op.TheConstants as op
-use Rattle.spirv_model.specs.Operands.{word_at, entry_of, class_of}
-use Rattle.body_model.specs.Classes.{is_module_level, is_terminator}
+use Rattle.spirv_model.specs.Operands.{entry_of, class_of}
+use Rattle.body_model.specs.Classes.{is_module_level}
 use Rattle.body_model.specs.Grammar.{Derives}
 use Rattle.body_model.proofs.Forward.{forward}
-use Rattle.valid_model.specs.Definitions.{gives, inst_at, no_instruction, definition, is_earlier}
-use Rattle.check_model.specs.Intervals.{Interval, around, inside, intervals_of, is_visible}
-use Rattle.check_model.specs.Branches.{Block, blocks_from, blocks_of, leads_to, predecessors, is_labelled, block_end_of, label_behind}
-use Rattle.check_model.specs.Visibility.{Use, use_at, uses_operands, is_choice, used_ids, Incoming, incoming, incoming_blocks, are_those, names_predecessors, incoming_use, phi_uses, uses_at, is_defined_for, is_visible_use, not_visible}
+use Rattle.valid_model.specs.Definitions.{gives, inst_at, definition, is_earlier}
+use Rattle.check_model.specs.Intervals.{Interval, inside, intervals_of, is_visible}
+use Rattle.check_model.specs.Visibility.{Use, use_at, uses_operands, is_choice, used_ids, uses_at, is_defined_for, is_visible_use, not_visible}
 use Rattle.typed_model.specs.Jumps.{keeps}
 use Rattle.typed_model.proofs.BlockParts.{another, clash}
-use Rattle.typed_model.proofs.Keeping.{LieIn, lie_around, kept_outside}
+use Rattle.typed_model.proofs.Keeping.{lie_around, kept_outside}
 use Rattle.typed_model.proofs.VisibleJumps.{lies}
 use Rattle.typed_model.proofs.TypedSteps.{visible_by, seen}
 use Rattle.typed_model.proofs.ValidFunctions.{front_of}
@@ -28,11 +26,11 @@ use Rattle.change_model.specs.Constants.{is_spec_id}
 use Rattle.change_model.specs.Settling.{is_spec_class, is_plain_constant_class, StandsFor, same, settles, all_settled}
 use Rattle.change_model.proofs.LaterIntervals.{later, intervals_later, visible_later}
 use Rattle.change_model.proofs.SameFunction.{HaveSameFunction, further, as_far}
-use Rattle.change_model.proofs.Settlings.{Settles, IsOther, by_op, settled_cons, settled_gone, gone_op}
-use Rattle.change_model.proofs.SettledBody.{settled_before, settled_after, before_first, HasBody}
-use Rattle.change_model.proofs.SettledFunction.{first_of, settled_first, same_rest, function_settled, other_label, new_front, old_front}
+use Rattle.change_model.proofs.Settlings.{Settles, IsOther, by_op, settled_cons, settled_gone}
+use Rattle.change_model.proofs.SettledBody.{before_first, HasBody}
+use Rattle.change_model.proofs.SettledFunction.{first_of, settled_first, same_rest, function_settled}
 use Rattle.change_model.proofs.SettledPlaces.{PlaceOf, earlier_same}
-use Rattle.change_model.proofs.SettledUses.{function_place, blocks_later, blocks_behind, block_later, filter_later, find_later, NoEarlier, ends_behind}
+use Rattle.change_model.proofs.SettledUses.{function_place}
 
 -- ---- how far apart both sides are
 

@@ -1,12 +1,11 @@
 -- Constants for specialization constants, by computing.
 use Rattle.std.proofs.Common.{◌≡◌, ℕ, ◌+◌, ◌-◌, List, [], ◌∷◌, ◌++◌, refl}
-use Rattle.std.specs.Prelude.{None, Some, Option, take, drop}
+use Rattle.std.specs.Prelude.{Some, take, drop}
 use Rattle.spirv_model.specs.declared.module.Inst.{Inst}
 use Rattle.spirv_model.specs.declared.op.TheConstants as op
 use Rattle.spirv_model.specs.declared.decoration.TheConstants.{SPEC_ID}
 use Rattle.spirv_model.specs.Operands.{result, entry_of, class_of}
 use Rattle.scalar_model.specs.Scalars.{scalar_result, word_from_word, arithmetic, bitwise, comparison, truth_from_truth, truth_from_truths}
-use Rattle.state_model.specs.declared.parts.Entry.{Entry}
 use Rattle.state_model.specs.declared.parts.SpecValues.{SpecValues}
 use Rattle.body_model.proofs.SampleModules.{f1, f2, f5}
 use Rattle.valid_model.specs.Meanings.{known_by, known_after, known_of}
