@@ -29,7 +29,7 @@ use Rattle.typed_model.proofs.ResultIds.{defined_id}
 use Rattle.typed_model.proofs.RunningStart.{first_label_is}
 use Rattle.change_model.specs.Constants.{is_spec_id, is_spec_scalar, settled, constants}
 use Rattle.change_model.specs.Keeping.{given, KeepsOutcome}
-use Rattle.change_model.specs.Programs.{MeanSame, AreProgramsAlike}
+use Rattle.change_model.specs.Programs.{plainly, MeanSame, AreProgramsAlike}
 use Rattle.change_model.specs.Settling.{all_settled}
 use Rattle.change_model.proofs.Followed.{same_insts}
 use Rattle.change_model.proofs.SameFunction.{same_function_keeps}
@@ -52,7 +52,7 @@ mean_same f s words sound =
     let a = program_has new in let b = program_has words.insts in
     let m = meaning_settled f s words sound in
     record {
-      meaning = a.0 ∙ m ∙ sym b.0;
+      meaning = λ id. ap (λ (m : ℕ → Meaning). plainly (m id)) (a.0 ∙ m ∙ sym b.0);
       layout = a.1 ∙ ap (λ (m : ℕ → Meaning). layouts_by m new) m ∙ layouts_settled f s (meaning words.insts) words.insts ∙ sym b.1;
     }
 

@@ -7,6 +7,9 @@ pub mod ConstantsSound
 pub mod ConstantsStand
 pub mod ConstantsValid
 pub mod Followed
+pub mod GivenResults
+pub mod KnownResults
+pub mod KnownRuns
 pub mod LaterIntervals
 pub mod SameEffects
 pub mod SameFunction

@@ -1,19 +1,44 @@
 -- An instruction does the same in programs in which ids mean the same, with the same values and the same words of the variables that it reads.
-use Rattle.std.proofs.Common.{◌≡◌, ℕ, List, [], ◌∷◌, ◌++◌, drop, slice_index, refl, ap, ◌∙◌, Option, None, Some}
+use Rattle.std.proofs.Common.{◌≡◌, ℕ, List, [], ◌∷◌, ◌++◌, drop, slice_index, refl, ap, ◌∙◌, Option, None, Some, sym}
 use Rattle.std.specs.Option.{option_map, option_and_then}
 use Rattle.spirv_model.specs.declared.module.Inst.{Inst}
 use Rattle.valid_model.specs.declared.meaning.Meaning.{Meaning}
+use Rattle.valid_model.specs.declared.meaning.Meaning.TheVariants.{Constant, Variable}
 use Rattle.stage_model.specs.Value.{Value, Truth, Word, Composite, Pointer, Outside, Layout, words_of}
-use Rattle.stage_model.specs.Program.{Program, held, held_layout}
+use Rattle.stage_model.specs.Program.{Program, pointee, held, held_type, held_layout}
+use Rattle.stage_model.specs.Operations.{is_vector}
 use Rattle.stage_model.specs.Start.{Memory}
 use Rattle.stage_model.specs.Effect.{place_of, loaded, stored, stores, all_words, chained, chain_of, one, result_of, effect_of}
 use Rattle.stage_model.specs.Machine.{State, after_effect, done, read_values}
-use Rattle.change_model.specs.Programs.{MeanSame}
+use Rattle.change_model.specs.Programs.{plainly, MeanSame}
+
+-- what doesn't tell constants from other values says the same of both sides
+pub by_plain : {A : Type 0} (F : Meaning → A) → ((meaning : Meaning) → F meaning ≡ F (plainly meaning)) → (new old : Meaning) → plainly new ≡ plainly old → F new ≡ F old
+by_plain F plain new old is = plain new ∙ ap F is ∙ sym (plain old)
+
+pointee_plain : (meaning : Meaning) → pointee meaning ≡ pointee (plainly meaning)
+pointee_plain (Constant type) = refl
+pointee_plain meaning = refl
+
+vector_plain : (meaning : Meaning) → is_vector meaning ≡ is_vector (plainly meaning)
+vector_plain (Constant type) = refl
+vector_plain meaning = refl
+
+held_plain : (means : ℕ → Meaning) (meaning : Meaning) → held means meaning ≡ held means (plainly meaning)
+held_plain means (Constant type) = refl
+held_plain means meaning = refl
+
+held_by : (new old : ℕ → Meaning) → ((id : ℕ) → plainly (new id) ≡ plainly (old id)) → (meaning : Meaning) → held new meaning ≡ held old meaning
+held_by new old same (Variable type class) = by_plain pointee pointee_plain (new type) (old type) (same type)
+held_by new old same meaning = refl
+
+pub type_same : (p q : Program) → MeanSame p q → (variable : ℕ) → held_type p variable ≡ held_type q variable
+type_same p q s variable = held_by p.meaning q.meaning s.meaning (p.meaning variable) ∙ by_plain (held q.meaning) (held_plain q.meaning) (p.meaning variable) (q.meaning variable) (s.meaning variable)
 
 pub held_same : (p q : Program) → MeanSame p q → (variable : ℕ) → held_layout p variable ≡ held_layout q variable
 unfolding held_layout
 held_same p q s variable =
-    ap (λ (f : ℕ → Meaning). option_and_then p.layout (held f (f variable))) s.meaning ∙ ap (λ (l : ℕ → Option Layout). option_and_then l (held q.meaning (q.meaning variable))) s.layout
+    ap (option_and_then p.layout) (type_same p q s variable) ∙ ap (λ (l : ℕ → Option Layout). option_and_then l (held_type q variable)) s.layout
 
 pub place_same : (p q : Program) → MeanSame p q → (variable : ℕ) (indices : List ℕ) → place_of p variable indices ≡ place_of q variable indices
 place_same p q s variable indices = rw (held_same p q s variable) refl
@@ -71,7 +96,7 @@ result_same : (p q : Program) → MeanSame p q → (memory : Memory) (opcode typ
 unfolding result_of
 result_same p q s memory opcode type words values =
     rw (ap (λ (l : ℕ → Option Layout). l type) s.layout) (rw (loads_same p q s memory values (q.layout type))
-    (rw (chain_same p q s values) (rw (ap (λ (m : ℕ → Meaning). m type) s.meaning) refl)))
+    (rw (chain_same p q s values) (rw (by_plain is_vector vector_plain (p.meaning type) (q.meaning type) (s.meaning type)) refl)))
 
 pub effect_same : (p q : Program) → MeanSame p q → (memory : Memory) (inst : Inst) (values : List Value) → effect_of p memory inst values ≡ effect_of q memory inst values
 unfolding effect_of

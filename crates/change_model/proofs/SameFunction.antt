@@ -37,7 +37,7 @@ as_far (Some k) = ap (λ (k : ℕ). Some k) {x = k} {y = 0 + k} (omega arith)
 no_label : (label : ℕ) (inst : Inst) → inst.op == LABEL ≡ false → is_label label inst ≡ false
 no_label label inst isnt = ap (λ (b : Bool). b && (slice_index inst.words 0 == label)) isnt
 
-label_behind_front : (insts : List Inst) (n label : ℕ) → n ≤ length insts → ((k : ℕ) → k < n → (inst_at insts k).op == LABEL ≡ false)
+pub label_behind_front : (insts : List Inst) (n label : ℕ) → n ≤ length insts → ((k : ℕ) → k < n → (inst_at insts k).op == LABEL ≡ false)
     → first_label_place insts label ≡ option_map (λ (k : ℕ). n + k) (first_label_place (drop n insts) label)
 unfolding first_label_place
 label_behind_front insts zero label within front = as_far (first_label_place insts label)

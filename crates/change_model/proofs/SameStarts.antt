@@ -6,24 +6,28 @@ use Rattle.limits.specs.declared.TheConstants.{LOCATIONS}
 use Rattle.spirv_model.specs.declared.decoration.TheConstants.{SPEC_ID, ARRAY_STRIDE, BUILT_IN, LOCATION, BINDING, DESCRIPTOR_SET}
 use Rattle.spirv_model.specs.declared.builtin.TheConstants as builtin
 use Rattle.valid_model.specs.declared.meaning.Meaning.{Meaning}
-use Rattle.valid_model.specs.declared.meaning.Meaning.TheVariants.{Shape as OfShape, Variable}
+use Rattle.valid_model.specs.declared.meaning.Meaning.TheVariants.{Shape as OfShape, Variable, Constant}
 use Rattle.valid_model.specs.declared.meaning.Shape.{Shape}
 use Rattle.valid_model.specs.declared.meaning.Shape.TheVariants.{Array, Struct}
 use Rattle.state_model.specs.declared.buffers.Buffers.{Buffers}
 use Rattle.stage_model.specs.declared.inputs.Inputs.{Inputs}
 use Rattle.stage_model.specs.declared.outcome.Kind.{Kind}
-use Rattle.stage_model.specs.Program.{Program, held, held_type, member_offsets, members_offsets, offsets_in, block_offsets}
+use Rattle.stage_model.specs.Program.{Program, held, held_type, member_offsets, members_offsets, offsets_in, block_offsets, component_offsets}
 use Rattle.stage_model.specs.Start.{Memory, class_word, variable_word, first_memory}
 use Rattle.stage_model.specs.Machine.{State}
 use Rattle.stage_model.specs.Stage.{output_with, components_left, position_left, slots_left, left_by, outcome_of}
-use Rattle.change_model.specs.Programs.{MeanSame, AreProgramsAlike}
-use Rattle.change_model.proofs.SameEffects.{held_same}
+use Rattle.change_model.specs.Programs.{plainly, MeanSame, AreProgramsAlike}
+use Rattle.change_model.proofs.SameEffects.{by_plain, type_same, held_same}
 
 -- ---- where the words of a block stand
 
+component_plain : (meaning : Meaning) → component_offsets meaning ≡ component_offsets (plainly meaning)
+component_plain (Constant type) = refl
+component_plain meaning = refl
+
 array_offsets_same : (p q : Program) → AreProgramsAlike p q → (type element count : ℕ) → member_offsets p type (OfShape (Array element count)) ≡ member_offsets q type (OfShape (Array element count))
 array_offsets_same p q s type element count =
-    rw (s.decoration type ARRAY_STRIDE refl) (rw (ap (λ (m : ℕ → Meaning). m element) s.mean.meaning) refl)
+    rw (s.decoration type ARRAY_STRIDE refl) (rw (by_plain component_offsets component_plain (p.meaning element) (q.meaning element) (s.mean.meaning element)) refl)
 
 shape_offsets_same : (p q : Program) → AreProgramsAlike p q → (type : ℕ) (shape : Shape) → member_offsets p type (OfShape shape) ≡ member_offsets q type (OfShape shape)
 shape_offsets_same p q s type (Array element count) = array_offsets_same p q s type element count
@@ -33,12 +37,16 @@ member_same : (p q : Program) → AreProgramsAlike p q → (type : ℕ) (meaning
 member_same p q s type (OfShape shape) = shape_offsets_same p q s type shape
 member_same p q s type kind = refl
 
+member_plain : (p : Program) (type : ℕ) (meaning : Meaning) → member_offsets p type meaning ≡ member_offsets p type (plainly meaning)
+member_plain p type (Constant of) = refl
+member_plain p type meaning = refl
+
 members_same : (p q : Program) → AreProgramsAlike p q → (block member : ℕ) (types : List ℕ) → members_offsets p block member types ≡ members_offsets q block member types
 members_same p q s block member [] = refl
 members_same p q s block member (type ∷ types) =
     let offset : p.offset block member ≡ q.offset block member = ap (λ (o : ℕ → ℕ → Option ℕ). o block member) s.offset in
     let own : member_offsets p type (p.meaning type) ≡ member_offsets q type (q.meaning type) =
-    ap (λ (m : ℕ → Meaning). member_offsets p type (m type)) s.mean.meaning ∙ member_same p q s type (q.meaning type) in
+    by_plain (member_offsets p type) (member_plain p type) (p.meaning type) (q.meaning type) (s.mean.meaning type) ∙ member_same p q s type (q.meaning type) in
     rw (members_same p q s block (member + 1) types) (rw own (rw offset refl))
 
 struct_offsets_same : (p q : Program) → AreProgramsAlike p q → (block : ℕ) (shape : Shape) → offsets_in p block (OfShape shape) ≡ offsets_in q block (OfShape shape)
@@ -49,13 +57,14 @@ offsets_same : (p q : Program) → AreProgramsAlike p q → (block : ℕ) (meani
 offsets_same p q s block (OfShape shape) = struct_offsets_same p q s block shape
 offsets_same p q s block kind = refl
 
+offsets_plain : (p : Program) (block : ℕ) (meaning : Meaning) → offsets_in p block meaning ≡ offsets_in p block (plainly meaning)
+offsets_plain p block (Constant of) = refl
+offsets_plain p block meaning = refl
+
 block_same : (p q : Program) → AreProgramsAlike p q → (block : Option ℕ) → block_offsets p block ≡ block_offsets q block
 unfolding block_offsets
 block_same p q s None = refl
-block_same p q s (Some block) = ap (λ (m : ℕ → Meaning). offsets_in p block (m block)) s.mean.meaning ∙ offsets_same p q s block (q.meaning block)
-
-type_same : (p q : Program) → MeanSame p q → (variable : ℕ) → held_type p variable ≡ held_type q variable
-type_same p q s variable = ap (λ (m : ℕ → Meaning). held m (m variable)) s.meaning
+block_same p q s (Some block) = by_plain (offsets_in p block) (offsets_plain p block) (p.meaning block) (q.meaning block) (s.mean.meaning block) ∙ offsets_same p q s block (q.meaning block)
 
 -- ---- the first words of variables
 
@@ -70,10 +79,14 @@ word_same : (p q : Program) → AreProgramsAlike p q → (inputs : Inputs) (buff
 word_same p q s inputs buffers variable (Variable type storage) at = class_same p q s inputs buffers variable storage at
 word_same p q s inputs buffers variable kind at = refl
 
+word_plain : (p : Program) (inputs : Inputs) (buffers : Buffers) (variable at : ℕ) (meaning : Meaning) → variable_word p inputs buffers variable meaning at ≡ variable_word p inputs buffers variable (plainly meaning) at
+word_plain p inputs buffers variable at (Constant of) = refl
+word_plain p inputs buffers variable at meaning = refl
+
 pub memory_same : (p q : Program) → AreProgramsAlike p q → (inputs : Inputs) (buffers : Buffers) → first_memory p inputs buffers ≡ first_memory q inputs buffers
 unfolding first_memory
 memory_same p q s inputs buffers = fun_ext (λ variable. fun_ext (λ at.
-    ap (λ (m : ℕ → Meaning). variable_word p inputs buffers variable (m variable) at) s.mean.meaning ∙ word_same p q s inputs buffers variable (q.meaning variable) at))
+    by_plain (λ (m : Meaning). variable_word p inputs buffers variable m at) (word_plain p inputs buffers variable at) (p.meaning variable) (q.meaning variable) (s.mean.meaning variable) ∙ word_same p q s inputs buffers variable (q.meaning variable) at))
 
 -- ---- outcomes
 

@@ -96,7 +96,7 @@ values_stay program entries (inst ∷ insts) values id none =
 
 -- ---- what an id is at the end is what its instruction gives it
 
-only_there : (words : Words) → type_fault words ≡ None → (n k id : ℕ) → n < length words.insts → k < length words.insts → result (inst_at words.insts n) ≡ Some id → (k ≡ n → ⊥) → gives id (inst_at words.insts k) ≡ false
+pub only_there : (words : Words) → type_fault words ≡ None → (n k id : ℕ) → n < length words.insts → k < length words.insts → result (inst_at words.insts n) ≡ Some id → (k ≡ n → ⊥) → gives id (inst_at words.insts k) ≡ false
 only_there words sound n k id within within' is differ = by_test (gives id (inst_at words.insts k)) refl
   where
     same_place : (a b : ℕ) (found : Option ℕ) → found ≡ Some a → found ≡ Some b → a ≡ b

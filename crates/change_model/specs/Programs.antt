@@ -1,12 +1,19 @@
 -- Programs that are alike as far as instructions, variables and outcomes ask.
 use Rattle.std.specs.Prelude.{◌≡◌, ℕ, ◌==◌, false}
 use Rattle.spirv_model.specs.declared.decoration.TheConstants.{SPEC_ID}
+use Rattle.valid_model.specs.declared.meaning.Meaning.{Meaning}
+use Rattle.valid_model.specs.declared.meaning.Meaning.TheVariants.{Constant, Value}
 use Rattle.stage_model.specs.Program.{Program}
 use Rattle.stage_model.specs.Stage.{output_with}
 
+-- what an id means, where constants aren't told from other values
+abbrev pub plainly : Meaning → Meaning
+plainly (Constant type) = Value type
+plainly meaning = meaning
+
 -- ids mean the same, and types have the same layouts
 pub record MeanSame (new old : Program) : Type 0 where
-  pub meaning : new.meaning ≡ old.meaning
+  pub meaning : (id : ℕ) → plainly (new.meaning id) ≡ plainly (old.meaning id)
   pub layout : new.layout ≡ old.layout
 
 -- moreover decorations are the same, but for the numbers of specialization constants, and outputs are the same variables
