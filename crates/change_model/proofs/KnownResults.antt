@@ -170,7 +170,7 @@ known_now own value inst state is known = record {
 -- ---- places without one
 
 -- the list without the instruction at a place
-pub without_one : ℕ → List Inst → List Inst
+unfoldable pub without_one : ℕ → List Inst → List Inst
 without_one gone insts = take gone insts ++ drop (suc gone) insts
 
 -- where the instruction at a place stands then

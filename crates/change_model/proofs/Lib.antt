@@ -7,10 +7,12 @@ pub mod ConstantsSound
 pub mod ConstantsStand
 pub mod ConstantsValid
 pub mod Followed
+pub mod FoldedMeanings
 pub mod GivenResults
 pub mod KnownResults
 pub mod KnownRuns
 pub mod LaterIntervals
+pub mod MovedUp
 pub mod SameEffects
 pub mod SameFunction
 pub mod SameStarts

@@ -1,4 +1,5 @@
 pub mod Constants
+pub mod Folding
 pub mod Following
 pub mod Keeping
 pub mod Programs
