@@ -128,7 +128,7 @@ one_step_more inst state (Stops kind) = refl
 
 -- ---- steps
 
-step_is : (program : Program) (m : Machine) (inst : Inst) (led_by : Flow × State) → slice_get program.insts m.place ≡ Some inst → done program inst m.state ≡ Some led_by → step program m ≡ led program m.place led_by
+pub step_is : (program : Program) (m : Machine) (inst : Inst) (led_by : Flow × State) → slice_get program.insts m.place ≡ Some inst → done program inst m.state ≡ Some led_by → step program m ≡ led program m.place led_by
 unfolding step
 step_is program m inst led_by here does =
     ap (λ (o : Option Inst). option_and_then (led program m.place) (option_and_then (λ (i : Inst). done program i m.state) o)) here ∙ ap (option_and_then (led program m.place)) does

@@ -8,6 +8,7 @@ pub mod ConstantsStand
 pub mod ConstantsValid
 pub mod Followed
 pub mod FoldedMeanings
+pub mod FoldedRuns
 pub mod GivenResults
 pub mod KnownResults
 pub mod KnownRuns
