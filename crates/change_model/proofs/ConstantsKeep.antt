@@ -137,10 +137,10 @@ values_settled other words sound layout entries any (suc n) within =
 
 -- ---- the start
 
-first_state : Values → Memory → State
+unfoldable pub first_state : Values → Memory → State
 first_state values memory = record { label = 0; before = 0; values = values; values_at_entry = values; memory = memory; back_edges = 0; steps = 0 }
 
-starts_in : (insts : List Inst) (given : Given) (first : ℕ)
+pub starts_in : (insts : List Inst) (given : Given) (first : ℕ)
     → (start_at (program_of insts) given first).state ≡ first_state (defined_by (program_of insts) given.entries (take first (program_of insts).insts)) (first_memory (program_of insts) given.inputs given.buffers)
 unfolding start_at first_state
 starts_in insts given first = refl

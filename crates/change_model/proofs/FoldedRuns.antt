@@ -172,7 +172,7 @@ kept_by_effect inst state (Goes label) id other = refl
 kept_by_effect inst state (Stops kind) id other = refl
 
 -- ids have these values
-pub OperandsAre : List ℕ → Values → State → Type 0
+abbrev pub OperandsAre : List ℕ → Values → State → Type 0
 OperandsAre ids first state = (id : ℕ) → is_among id ids ≡ true → state.values id ≡ first id
 
 -- no instruction of the function gives the id a value
@@ -201,7 +201,6 @@ stepped_by words n a =
 
 operands_keep : (words : Words) (v : IsValidList words) (ids : List ℕ) (first : Values) → ((id : ℕ) → is_among id ids ≡ true → IsOfLevel words v id) → (n next : Machine) → IsRunning words.insts v.derivation n → OperandsAre ids first n.state
     → step (program_of words.insts) n ≡ Some (GoesOn next) → OperandsAre ids first next.state
-unfolding OperandsAre
 operands_keep words v ids first level n next r are is = λ id among.
     let a = running_does words v n r in
     let after = after_effect a.inst n.state a.runs.effect in
@@ -215,7 +214,6 @@ operation_gives : (words : Words) (v : IsValidList words) (place : ℕ) (value :
     → all_values first (words_from 2 (inst_at words.insts place)) ≡ Some reads → operation (inst_at words.insts place).op reads ≡ Some value
     → (n : Machine) → IsRunning words.insts v.derivation n → OperandsAre (words_from 2 (inst_at words.insts place)) first n.state → n.place ≡ place
     → step (program_of words.insts) n ≡ Some (GoesOn (machine (place + 1) (after_effect (inst_at words.insts place) n.state (Gives value)).1))
-unfolding OperandsAre
 operation_gives words v place value first reads scalar read is n r are there =
     let q = program_of words.insts in
     let x = inst_at words.insts place in

@@ -7,6 +7,7 @@ pub mod ConstantsSound
 pub mod ConstantsStand
 pub mod ConstantsValid
 pub mod Followed
+pub mod FoldedKeeps
 pub mod FoldedMeanings
 pub mod FoldedRuns
 pub mod GivenResults

@@ -122,7 +122,7 @@ unfolding defined_by
 by_parts program entries insts n =
     ap (fold (with_definition program entries) no_values) (sym (take-append-drop n insts)) ∙ fold-append (with_definition program entries) no_values (take n insts) (drop n insts)
 
-none_before : (program : Program) (entries : SpecValues) (insts : List Inst) (id : ℕ) → ((k : ℕ) → k < length insts → gives id (inst_at insts k) ≡ false) → defined_by program entries insts id ≡ None
+pub none_before : (program : Program) (entries : SpecValues) (insts : List Inst) (id : ℕ) → ((k : ℕ) → k < length insts → gives id (inst_at insts k) ≡ false) → defined_by program entries insts id ≡ None
 unfolding defined_by
 none_before program entries insts id none = values_stay program entries insts no_values id none
 
