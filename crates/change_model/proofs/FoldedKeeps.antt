@@ -156,7 +156,7 @@ take_front (x ∷ level) rest a b zero is = absurd (omega (arith, is))
 take_front (x ∷ level) rest a b (suc n) is =
     ap (λ (k : ℕ). take k (x ∷ (level ++ (a ∷ b ∷ rest)))) {x = suc n + 2} {y = suc (n + 2)} (omega arith) ∙ ap (λ (l : List Inst). x ∷ l) (take_front level rest a b n (omega (arith, is)))
 
-function_op : (insts : List Inst) (d : Derives insts) → (inst_at insts d.before).op ≡ op.FUNCTION
+pub function_op : (insts : List Inst) (d : Derives insts) → (inst_at insts d.before).op ≡ op.FUNCTION
 function_op insts d = by_found (slice_get insts d.before) refl d.begins.function
   where
     by_found : (found : Option Inst) → slice_get insts d.before ≡ found → IsOp op.FUNCTION found → (inst_at insts d.before).op ≡ op.FUNCTION

@@ -41,38 +41,38 @@ abbrev pub is_scalar : ℕ → Bool
 is_scalar opcode = is_scalar_class (class_of opcode)
 
 -- none of these is one
-record AreOthers : Type 0 where
-  label : is_scalar op.LABEL ≡ false
-  selection_merge : is_scalar op.SELECTION_MERGE ≡ false
-  loop_merge : is_scalar op.LOOP_MERGE ≡ false
-  variable : is_scalar op.VARIABLE ≡ false
-  store : is_scalar op.STORE ≡ false
-  branch : is_scalar op.BRANCH ≡ false
-  branch_conditional : is_scalar op.BRANCH_CONDITIONAL ≡ false
-  switch : is_scalar op.SWITCH ≡ false
-  ending : is_scalar op.RETURN ≡ false
-  unreachable : is_scalar op.UNREACHABLE ≡ false
-  kill : is_scalar op.KILL ≡ false
-  phi : is_scalar op.PHI ≡ false
-  undef : is_scalar op.UNDEF ≡ false
-  load : is_scalar op.LOAD ≡ false
-  access_chain : is_scalar op.ACCESS_CHAIN ≡ false
-  shuffle : is_scalar op.VECTOR_SHUFFLE ≡ false
-  construct : is_scalar op.COMPOSITE_CONSTRUCT ≡ false
-  extract : is_scalar op.COMPOSITE_EXTRACT ≡ false
-  insert : is_scalar op.COMPOSITE_INSERT ≡ false
+pub record AreOthers : Type 0 where
+  pub label : is_scalar op.LABEL ≡ false
+  pub selection_merge : is_scalar op.SELECTION_MERGE ≡ false
+  pub loop_merge : is_scalar op.LOOP_MERGE ≡ false
+  pub variable : is_scalar op.VARIABLE ≡ false
+  pub store : is_scalar op.STORE ≡ false
+  pub branch : is_scalar op.BRANCH ≡ false
+  pub branch_conditional : is_scalar op.BRANCH_CONDITIONAL ≡ false
+  pub switch : is_scalar op.SWITCH ≡ false
+  pub ending : is_scalar op.RETURN ≡ false
+  pub unreachable : is_scalar op.UNREACHABLE ≡ false
+  pub kill : is_scalar op.KILL ≡ false
+  pub phi : is_scalar op.PHI ≡ false
+  pub undef : is_scalar op.UNDEF ≡ false
+  pub load : is_scalar op.LOAD ≡ false
+  pub access_chain : is_scalar op.ACCESS_CHAIN ≡ false
+  pub shuffle : is_scalar op.VECTOR_SHUFFLE ≡ false
+  pub construct : is_scalar op.COMPOSITE_CONSTRUCT ≡ false
+  pub extract : is_scalar op.COMPOSITE_EXTRACT ≡ false
+  pub insert : is_scalar op.COMPOSITE_INSERT ≡ false
 
-others : AreOthers
+pub others : AreOthers
 unfolding class_of entry_of
 others = record {
   label = refl; selection_merge = refl; loop_merge = refl; variable = refl; store = refl; branch = refl; branch_conditional = refl; switch = refl; ending = refl; unreachable = refl;
   kill = refl; phi = refl; undef = refl; load = refl; access_chain = refl; shuffle = refl; construct = refl; extract = refl; insert = refl;
 }
 
-differs : (own opcode : ℕ) → is_scalar own ≡ false → is_scalar opcode ≡ true → opcode == own ≡ false
+pub differs : (own opcode : ℕ) → is_scalar own ≡ false → is_scalar opcode ≡ true → opcode == own ≡ false
 differs own opcode isnt is = another is_scalar own isnt opcode is
 
-result_class : (of : Option Class) → is_scalar_class of ≡ true → has_result_class of ≡ true
+pub result_class : (of : Option Class) → is_scalar_class of ≡ true → has_result_class of ≡ true
 result_class None is = cc
 result_class (Some (class.Scalar operation)) is = refl
 result_class (Some other) is = cc

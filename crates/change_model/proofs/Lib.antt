@@ -1,3 +1,4 @@
+pub mod AlikeStates
 mod Worked
 pub mod Composing
 pub mod ConstantsFit
@@ -9,6 +10,7 @@ pub mod ConstantsValid
 pub mod Followed
 pub mod FoldedKeeps
 pub mod FoldedMeanings
+pub mod FoldedOperations
 pub mod FoldedRuns
 pub mod GivenResults
 pub mod KnownResults

@@ -122,7 +122,7 @@ spec_is_constant (Some class.SpecConstant) is = refl
 spec_is_constant (Some class.SpecConstantResult) is = refl
 spec_is_constant (Some other) is = cc
 
-constant_is_constant : (of : Option Class) → is_plain_constant_class of ≡ true → is_constant_class of ≡ true
+pub constant_is_constant : (of : Option Class) → is_plain_constant_class of ≡ true → is_constant_class of ≡ true
 constant_is_constant None is = cc
 constant_is_constant (Some class.Constant) is = refl
 constant_is_constant (Some other) is = cc
@@ -131,7 +131,7 @@ no_spec_constant : is_spec_class (class_of op.CONSTANT) ≡ false
 unfolding class_of entry_of
 no_spec_constant = refl
 
-known_constant : (known : Knowledge) (inst : Inst) → is_type inst.op ≡ false → is_constant inst.op ≡ true → known_of known inst ≡ constant_known known inst.op (word_at 0 inst) (word_at 2 inst)
+pub known_constant : (known : Knowledge) (inst : Inst) → is_type inst.op ≡ false → is_constant inst.op ≡ true → known_of known inst ≡ constant_known known inst.op (word_at 0 inst) (word_at 2 inst)
 unfolding known_of
 known_constant known inst no_type is = rw no_type (rw is refl)
 

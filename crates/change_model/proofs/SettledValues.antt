@@ -211,15 +211,15 @@ pub record ValuesAs (other program : Program) (any entries : SpecValues) (values
   pub id : word_at 1 new ≡ word_at 1 old
   pub value : constant_of other any values new.op new.words ≡ constant_of program entries values old.op old.words
 
-true_value : (program : Program) (entries : SpecValues) (values : Values) (type id : ℕ) → constant_of program entries values op.CONSTANT_TRUE (type ∷ id ∷ []) ≡ Some (Truth true)
+pub true_value : (program : Program) (entries : SpecValues) (values : Values) (type id : ℕ) → constant_of program entries values op.CONSTANT_TRUE (type ∷ id ∷ []) ≡ Some (Truth true)
 unfolding constant_of
 true_value program entries values type id = refl
 
-false_value : (program : Program) (entries : SpecValues) (values : Values) (type id : ℕ) → constant_of program entries values op.CONSTANT_FALSE (type ∷ id ∷ []) ≡ Some (Truth false)
+pub false_value : (program : Program) (entries : SpecValues) (values : Values) (type id : ℕ) → constant_of program entries values op.CONSTANT_FALSE (type ∷ id ∷ []) ≡ Some (Truth false)
 unfolding constant_of
 false_value program entries values type id = refl
 
-number_value : (program : Program) (entries : SpecValues) (values : Values) (type id word : ℕ) → constant_of program entries values op.CONSTANT (type ∷ id ∷ word ∷ []) ≡ Some (Word word)
+pub number_value : (program : Program) (entries : SpecValues) (values : Values) (type id word : ℕ) → constant_of program entries values op.CONSTANT (type ∷ id ∷ word ∷ []) ≡ Some (Word word)
 unfolding constant_of
 number_value program entries values type id word = refl
 

@@ -50,7 +50,7 @@ spec_defines (Some class.SpecConstant) is = refl
 spec_defines (Some class.SpecConstantResult) is = refl
 spec_defines (Some other) is = cc
 
-constant_defines : (of : Option Class) → is_plain_constant_class of ≡ true → defines of ≡ true
+pub constant_defines : (of : Option Class) → is_plain_constant_class of ≡ true → defines of ≡ true
 constant_defines None is = cc
 constant_defines (Some class.Constant) is = refl
 constant_defines (Some other) is = cc

@@ -1,6 +1,6 @@
 -- Constants for specialization constants, by computing.
-use Rattle.std.proofs.Common.{◌≡◌, ℕ, ◌+◌, ◌-◌, List, [], ◌∷◌, ◌++◌, refl}
-use Rattle.std.specs.Prelude.{Some, take, drop}
+use Rattle.std.proofs.Common.{◌≡◌, ℕ, ◌+◌, ◌-◌, List, [], ◌∷◌, ◌++◌, refl, ◌==◌, if◌then◌else◌, Option, None, Some}
+use Rattle.std.specs.Prelude.{take, drop}
 use Rattle.spirv_model.specs.declared.module.Inst.{Inst}
 use Rattle.spirv_model.specs.declared.op.TheConstants as op
 use Rattle.spirv_model.specs.declared.decoration.TheConstants.{SPEC_ID}
@@ -13,6 +13,9 @@ use Rattle.valid_model.specs.Types.{type_of}
 use Rattle.valid_model.specs.DecorationWords.{decoration_of, offset_of}
 use Rattle.stage_model.specs.Program.{program_of, layouts_by}
 use Rattle.stage_model.specs.Start.{constant_of, defined_by}
+use Rattle.scalar_model.specs.declared.scalar_value.Scalar.{Scalar}
+use Rattle.scalar_model.specs.declared.scalar_value.Scalar.TheVariants.{Word as WordOf}
+use Rattle.change_model.specs.Folding.{moved_up, folded_at}
 use Rattle.change_model.specs.Constants.{settled, constants}
 
 abbrev i : ℕ → List ℕ → Inst
@@ -63,3 +66,21 @@ operations : constants no_entry computed ∷ constants (entry 4 1) computed ∷ 
     ≡ computed_with 7 14 op.CONSTANT_FALSE ∷ computed_with 1 100 op.CONSTANT_TRUE ∷ computed_with 0 0 op.CONSTANT_FALSE ∷ []
 unfolding scalar_result word_from_word arithmetic bitwise comparison truth_from_truth truth_from_truths result entry_of class_of known_by known_after known_of type_of decoration_of offset_of program_of layouts_by constant_of defined_by settled constants
 operations = refl
+
+-- ---- folding
+
+-- numbers 6 and 9
+abbrev numbers_of : ℕ → ℕ → ℕ → Option Scalar
+numbers_of six nine id = if id == 6 then Some (WordOf six) else if id == 9 then Some (WordOf nine) else None
+
+-- the quotient of both, where OpFunction stands at place 12 and the operation at 14
+abbrev quotient : ℕ → List Inst → List Inst
+quotient result insts =
+    take 12 insts
+    ++ (i op.CONSTANT (3 ∷ 10 ∷ result ∷ []) ∷ i op.FUNCTION (1 ∷ 7 ∷ 0 ∷ 2 ∷ []) ∷ i op.LABEL (8 ∷ []) ∷ i op.STORE (5 ∷ 10 ∷ []) ∷ i op.RETURN [] ∷ i op.FUNCTION_END [] ∷ [])
+
+-- what isn't known stays
+folded : folded_at (numbers_of 100 7) 14 (constants no_entry f2) ∷ folded_at (numbers_of 100 0) 14 (constants (entry 0 0) f2) ∷ folded_at (λ id. None) 14 (constants no_entry f2) ∷ []
+    ≡ quotient 14 (constants no_entry f2) ∷ quotient 0 (constants (entry 0 0) f2) ∷ constants no_entry f2 ∷ []
+unfolding scalar_result word_from_word arithmetic bitwise comparison truth_from_truth truth_from_truths result entry_of class_of known_by known_after known_of type_of decoration_of offset_of program_of layouts_by constant_of defined_by settled constants moved_up folded_at
+folded = refl
