@@ -1,5 +1,5 @@
 -- What is left by states that are alike is kept.
-use Rattle.std.proofs.Common.{◌≡◌, ℕ, ◌==◌, nat_lt, if◌then◌else◌, List, map, refl, ap, sym, ◌∙◌, Option, None, Some}
+use Rattle.std.proofs.Common.{◌≡◌, ℕ, nat_lt, if◌then◌else◌, List, map, refl, ap, ◌∙◌, Option, None, Some}
 use Rattle.std.proofs.Math.Path.{fun_ext}
 use Rattle.std.specs.List.{range_with_len}
 use Rattle.limits.specs.declared.TheConstants.{LOCATIONS, COMPONENTS}
@@ -29,7 +29,7 @@ components_same : (program : Program) (Held : ℕ → Type 0) (new old : Memory)
 components_same program Held new old same None held = refl
 components_same program Held new old same (Some variable) held =
     ap (λ (f : ℕ → ℕ). map f (range_with_len 0 COMPONENTS)) (fun_ext (λ k.
-        ap (λ (word : ℕ). if nat_lt k (size_in (held_layout program variable)) then word else 0) (same variable k (held variable refl))))
+    ap (λ (word : ℕ). if nat_lt k (size_in (held_layout program variable)) then word else 0) (same variable k (held variable refl))))
 
 position_same : (program : Program) (Held : ℕ → Type 0) → HoldsOutputs program Held → (new old : Memory) → HoldSame Held new old → position_left program new ≡ position_left program old
 unfolding position_left

@@ -1,10 +1,9 @@
 -- With a scalar operation on constants folded a list does the same in fewer steps.
-use Rattle.std.proofs.Common.{◌≡◌, ℕ, zero, suc, ◌+◌, ◌-◌, ◌<◌, ◌≤◌, ◌==◌, ◌&&◌, inl, inr, Bool, true, false, if◌then◌else◌, List, [], ◌∷◌, ◌++◌, length, take, drop, slice_index, refl, ap, sym, ◌∙◌, subst, arith, length-append, Option, None, Some}
+use Rattle.std.proofs.Common.{◌≡◌, ℕ, zero, suc, ◌+◌, ◌<◌, ◌==◌, ◌&&◌, inl, Bool, true, false, List, [], ◌∷◌, ◌++◌, length, take, drop, slice_index, refl, ap, sym, ◌∙◌, arith, Option, None, Some}
 use Rattle.std.proofs.Math.Path.{fun_ext}
-use Rattle.std.specs.Prelude.{is_some, slice_get}
+use Rattle.std.specs.Prelude.{slice_get}
 use Rattle.std.specs.Option.{option_map, option_and_then}
 use Rattle.std.specs.List.{find, fold}
-use Rattle.std.proofs.lemmas.Bool.Decides.{nat_tests}
 use Rattle.std.proofs.lemmas.List.{take_more, get_or-take, length-take-le}
 use Rattle.std.proofs.lemmas.List.Sums.{fold-append}
 use Rattle.std.proofs.lemmas.Option.{get_or_from_slice_get}
@@ -30,18 +29,18 @@ use Rattle.stage_model.specs.Program.{Program, layouts_by, program_of}
 use Rattle.stage_model.specs.Start.{Values, Memory, no_values, with_value, all_values, entry_word, specialized, constant_of, with_definition, defined_by, first_memory}
 use Rattle.stage_model.specs.Operations.{operation}
 use Rattle.stage_model.specs.Machine.{State}
-use Rattle.stage_model.specs.Stage.{Given, is_number, is_output_with, output_with, start_at, stage}
-use Rattle.typed_model.proofs.BlockParts.{another, clash}
+use Rattle.stage_model.specs.Stage.{is_number, is_output_with, output_with, start_at, stage}
+use Rattle.typed_model.proofs.BlockParts.{another}
 use Rattle.typed_model.proofs.ModuleValues.{with_one, with_none}
 use Rattle.change_model.specs.Keeping.{given, KeepsOutcome}
-use Rattle.change_model.specs.Programs.{plainly, MeanSame, AreProgramsAlike}
+use Rattle.change_model.specs.Programs.{plainly, AreProgramsAlike}
 use Rattle.change_model.specs.Folding.{moved_up}
 use Rattle.change_model.proofs.ConstantsKeep.{first_state, starts_in}
 use Rattle.change_model.proofs.FoldedMeanings.{IsMovedUp, meaning_moved_up, layouts_moved_up}
 use Rattle.change_model.proofs.FoldedRuns.{is_scalar, OperandsAre, IsOfLevel, operation_known}
 use Rattle.change_model.proofs.Followed.{same_insts}
-use Rattle.change_model.proofs.KnownResults.{beside, StaysKnown, without_one}
-use Rattle.change_model.proofs.KnownRuns.{GivesKnown, LeavesOut, known_result_keeps}
+use Rattle.change_model.proofs.KnownResults.{beside, without_one}
+use Rattle.change_model.proofs.KnownRuns.{known_result_keeps}
 use Rattle.change_model.proofs.MovedUp.{moved_up_is, find_moved_up, leaves_out_moved_up, first_label_moved_up}
 use Rattle.change_model.proofs.SameStarts.{memory_same}
 use Rattle.change_model.proofs.SettledValues.{defines_op, no_value, only_there, none_before}
@@ -195,10 +194,10 @@ unknown_yet words v gone own type constant value f entries =
     let n = v.derivation.before + 1 in
     ap (λ (l : List Inst). defined_by (program_of insts) entries (take n l) own) (same_insts insts)
     ∙ none_before (program_of insts) entries (take n insts) own (λ k less.
-        let w = f.moves.within in let long = length-take-le n insts in
-        let early : k < n = omega (arith, less, long, w) in
-        ap (gives own) (get_or-take n insts k no_instruction early)
-        ∙ only_there words v.sound (n + gone) k own w (omega (arith, early, w)) f.result_is (λ same. absurd (omega (arith, same, early))))
+    let w = f.moves.within in let long = length-take-le n insts in
+    let early : k < n = omega (arith, less, long, w) in
+    ap (gives own) (get_or-take n insts k no_instruction early)
+    ∙ only_there words v.sound (n + gone) k own w (omega (arith, early, w)) f.result_is (λ same. absurd (omega (arith, same, early))))
 
 start_beside : (own : ℕ) (value : Value) (values : Values) (memory : Memory) → first_state (with_value own (Some value) values) memory ≡ beside own value (first_state values memory) 0
 unfolding first_state beside

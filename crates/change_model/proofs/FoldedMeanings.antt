@@ -1,5 +1,5 @@
 -- Ids mean the same, constants not told from other values, where one instruction became a constant.
-use Rattle.std.proofs.Common.{◌≡◌, ℕ, zero, suc, ◌+◌, ◌-◌, ◌<◌, ◌≤◌, ◌==◌, ◌&&◌, ◌||◌, Bool, true, false, if◌then◌else◌, List, [], ◌∷◌, ◌++◌, length, take, drop, refl, ap, sym, ◌∙◌, subst, arith, length-drop, take-append-drop, Option, None, Some}
+use Rattle.std.proofs.Common.{◌≡◌, ℕ, zero, suc, ◌+◌, ◌<◌, ◌==◌, ◌&&◌, Bool, true, false, if◌then◌else◌, List, [], ◌∷◌, ◌++◌, length, take, drop, refl, ap, sym, ◌∙◌, subst, arith, length-drop, take-append-drop, Option, None, Some}
 use Rattle.std.proofs.Math.Path.{fun_ext}
 use Rattle.std.specs.Prelude.{is_none}
 use Rattle.std.specs.List.{fold}
@@ -8,13 +8,12 @@ use Rattle.std.proofs.lemmas.List.{drop_more, get_or-drop}
 use Rattle.std.proofs.lemmas.List.Sums.{fold-append}
 use Rattle.spirv_model.specs.declared.module.Inst.{Inst}
 use Rattle.spirv_model.specs.declared.op.TheConstants as op
-use Rattle.spirv_model.specs.Operands.{word_at, result}
 use Rattle.body_model.specs.Grammar.{Derives}
 use Rattle.body_model.proofs.ModuleLevels.{within_list}
 use Rattle.valid_model.specs.declared.meaning.IdFacts.{IdFacts}
 use Rattle.valid_model.specs.declared.meaning.Meaning.{Meaning}
 use Rattle.valid_model.specs.declared.meaning.Meaning.TheVariants.{Constant, Value}
-use Rattle.valid_model.specs.Definitions.{gives, has_result, inst_at, no_instruction}
+use Rattle.valid_model.specs.Definitions.{gives, inst_at, no_instruction}
 use Rattle.valid_model.specs.Knowledge.{Knowledge, meaning_in, nothing_known}
 use Rattle.valid_model.specs.Types.{is_type}
 use Rattle.valid_model.specs.Meanings.{is_constant, known_of, known_after, known_by, meaning}
@@ -125,7 +124,7 @@ knows_moved_up insts d gone own type constant i =
     both_more own made (known_after known constant) known first fn (known_alone (known_after known constant) known fn i.function.0 i.function.1) in
     let e = length-drop (d.before + 1) insts in
     let third = without_more own made rest gone i.alone (let w = i.within in omega (arith, e, w))
-        (λ id isnt. ap (gives id) (get_or-drop (d.before + 1) insts gone no_instruction) ∙ i.gone_gives id isnt) (known_after (known_after known constant) fn) (known_after known fn) second in
+    (λ id isnt. ap (gives id) (get_or-drop (d.before + 1) insts gone no_instruction) ∙ i.gone_gives id isnt) (known_after (known_after known constant) fn) (known_after known fn) second in
     subst (λ (l : List Inst). KnowsBeside own made (fold known_after nothing_known l) (fold known_after nothing_known insts)) (sym (moved_up_is insts d gone constant))
     (subst (λ (l : List Inst). KnowsBeside own made (fold known_after nothing_known (level ++ (constant ∷ fn ∷ without_one gone rest))) (fold known_after nothing_known l)) (sym (by_level insts d))
     (subst (λ (k : Knowledge). KnowsBeside own made k (fold known_after nothing_known (level ++ (fn ∷ rest)))) (sym (fold-append known_after nothing_known level (constant ∷ fn ∷ without_one gone rest)))

@@ -1,9 +1,9 @@
 -- In a valid module a scalar operation of the function may be folded.
-use Rattle.std.proofs.Common.{◌≡◌, ℕ, zero, suc, ◌+◌, ◌-◌, ◌<◌, ◌≤◌, ◌==◌, ◌||◌, inl, inr, Bool, true, false, if◌then◌else◌, List, [], ◌∷◌, length, take, drop, refl, ap, sym, ◌∙◌, subst, arith, length-drop, Option, None, Some}
+use Rattle.std.proofs.Common.{◌≡◌, ℕ, suc, ◌+◌, ◌<◌, ◌≤◌, ◌==◌, ◌||◌, inl, inr, Bool, true, false, if◌then◌else◌, List, [], ◌∷◌, length, take, drop, refl, ap, sym, ◌∙◌, subst, arith, length-drop, Option, None, Some}
 use Rattle.std.specs.Prelude.{slice_get}
 use Rattle.std.specs.Option.{option_map}
 use Rattle.std.specs.List.{list_any}
-use Rattle.std.proofs.lemmas.Bool.{cases_lt, lt-ltb, le-ltb}
+use Rattle.std.proofs.lemmas.Bool.{cases_lt, le-ltb}
 use Rattle.std.proofs.lemmas.Bool.Decides.{nat_tests}
 use Rattle.std.proofs.lemmas.List.{get_or-drop}
 use Rattle.std.proofs.lemmas.Option.{get_or_from_slice_get}
@@ -13,25 +13,23 @@ use Rattle.spirv_model.specs.declared.class.Class.{Class}
 use Rattle.spirv_model.specs.declared.class.Class.TheVariants as class
 use Rattle.spirv_model.specs.declared.op.TheConstants as op
 use Rattle.spirv_model.specs.Operands.{word_at, words_from, entry_of, class_of, result}
-use Rattle.body_model.specs.Classes.{is_plain_class, is_plain, is_terminator_class, is_terminator}
+use Rattle.body_model.specs.Classes.{is_plain_class, is_terminator_class}
 use Rattle.body_model.specs.Switches.{is_among}
 use Rattle.body_model.specs.Grammar.{IsOp, Derives}
 use Rattle.state_model.specs.declared.parts.SpecValues.{SpecValues}
 use Rattle.state_model.specs.declared.buffers.Buffers.{Buffers}
-use Rattle.valid_model.specs.declared.meaning.Meaning.{Meaning}
 use Rattle.valid_model.specs.declared.meaning.Meaning.TheVariants.{Constant, Value as OfValue}
 use Rattle.valid_model.specs.declared.meaning.IdFacts.{IdFacts}
 use Rattle.valid_model.specs.Definitions.{gives, has_result, inst_at, no_instruction, definition, is_earlier}
 use Rattle.valid_model.specs.Knowledge.{Knowledge}
 use Rattle.valid_model.specs.Types.{is_type_class, is_type}
-use Rattle.valid_model.specs.Meanings.{is_constant_class, is_constant, known_of, known_by, known_before, meaning}
+use Rattle.valid_model.specs.Meanings.{is_constant_class, is_constant, known_of, known_by, known_before}
 use Rattle.valid_model.proofs.KnownIds.{unknown_without_definition}
 use Rattle.check_model.specs.Validity.{IsValidList}
 use Rattle.stage_model.specs.declared.inputs.Inputs.{Inputs}
 use Rattle.stage_model.specs.Value.{Value, Truth, Word, Composite, Pointer, Outside}
 use Rattle.stage_model.specs.Program.{Program}
 use Rattle.stage_model.specs.Start.{Values, constant_of}
-use Rattle.stage_model.specs.Effect.{has_result_class}
 use Rattle.stage_model.specs.Stage.{stage}
 use Rattle.typed_model.proofs.BlockParts.{BlockPart, a_label, a_phi, a_variable, a_selection_merge, a_loop_merge, a_plain_one, a_terminator, another}
 use Rattle.typed_model.proofs.FunctionRuns.{part_at}
@@ -43,7 +41,6 @@ use Rattle.change_model.specs.Folding.{moved_up}
 use Rattle.change_model.specs.Keeping.{given, KeepsOutcome}
 use Rattle.change_model.specs.Settling.{is_plain_constant_class}
 use Rattle.change_model.proofs.FoldedKeeps.{IsFolded, ComputesTo, function_op, folded_does}
-use Rattle.change_model.proofs.FoldedMeanings.{IsMovedUp}
 use Rattle.change_model.proofs.FoldedRuns.{is_scalar_class, is_scalar, differs, others, result_class, IsOfLevel}
 use Rattle.change_model.proofs.SettledMeanings.{known_constant, constant_is_no_type, constant_is_constant}
 use Rattle.change_model.proofs.SettledPlaces.{earlier_is}

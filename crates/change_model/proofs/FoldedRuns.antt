@@ -1,6 +1,5 @@
 -- What a scalar operation on constants gives is known: folded, the list does the same in fewer steps.
-use Rattle.std.proofs.Common.{◌≡◌, ℕ, zero, suc, ◌+◌, ◌-◌, ◌<◌, ◌≤◌, ◌==◌, ◌&&◌, ◌||◌, inl, inr, Bool, true, false, nat_le, if◌then◌else◌, List, [], ◌∷◌, ◌++◌, length, take, drop, slice_index, refl, ap, sym, ◌∙◌, subst, arith, Option, None, Some}
-use Rattle.std.proofs.Math.Path.{fun_ext}
+use Rattle.std.proofs.Common.{◌≡◌, ℕ, ◌+◌, ◌<◌, ◌≤◌, ◌==◌, ◌||◌, Bool, true, false, nat_le, if◌then◌else◌, List, [], ◌∷◌, length, drop, slice_index, refl, ap, sym, ◌∙◌, arith, Option, None, Some}
 use Rattle.std.specs.Prelude.{slice_get}
 use Rattle.std.specs.Option.{option_map, option_and_then}
 use Rattle.std.proofs.lemmas.Bool.Decides.{nat_tests}
@@ -21,7 +20,7 @@ use Rattle.stage_model.specs.Program.{Program, program_of}
 use Rattle.stage_model.specs.Start.{Values, Memory, with_value, all_values}
 use Rattle.stage_model.specs.Operations.{operation}
 use Rattle.stage_model.specs.Effect.{Effect, Passes, Gives, Writes, Enters, Goes, Stops, has_result_class, is_operation_class, read_ids, result_of, effect_of}
-use Rattle.stage_model.specs.Machine.{State, Flow, Next, To, Stopped, read_from, after_effect, counted, done, Machine, Step, GoesOn, Ends, at, back_to, jump, led, step}
+use Rattle.stage_model.specs.Machine.{State, Flow, Next, To, Stopped, read_from, after_effect, Machine, Step, GoesOn, Ends, at, jump, led, step}
 use Rattle.stage_model.specs.Leads.{machine}
 use Rattle.typed_model.specs.Running.{IsRunning, Acts}
 use Rattle.typed_model.proofs.BlockParts.{another}
@@ -65,8 +64,25 @@ pub record AreOthers : Type 0 where
 pub others : AreOthers
 unfolding class_of entry_of
 others = record {
-  label = refl; selection_merge = refl; loop_merge = refl; variable = refl; store = refl; branch = refl; branch_conditional = refl; switch = refl; ending = refl; unreachable = refl;
-  kill = refl; phi = refl; undef = refl; load = refl; access_chain = refl; shuffle = refl; construct = refl; extract = refl; insert = refl;
+  label = refl;
+  selection_merge = refl;
+  loop_merge = refl;
+  variable = refl;
+  store = refl;
+  branch = refl;
+  branch_conditional = refl;
+  switch = refl;
+  ending = refl;
+  unreachable = refl;
+  kill = refl;
+  phi = refl;
+  undef = refl;
+  load = refl;
+  access_chain = refl;
+  shuffle = refl;
+  construct = refl;
+  extract = refl;
+  insert = refl;
 }
 
 pub differs : (own opcode : ℕ) → is_scalar own ≡ false → is_scalar opcode ≡ true → opcode == own ≡ false
@@ -223,7 +239,7 @@ operation_gives words v place value first reads scalar read is n r are there =
     sym (operation_reads x n.state scalar) ∙ ap (λ (i : Inst). all_values (read_from n.state i.op) (read_ids i.op n.state.before i.words)) (sym here) ∙ a.are in
     let one : a.read ≡ reads = same_some (all_values n.state.values (words_from 2 x)) a.read reads found (same_reads n.state.values first (words_from 2 x) are ∙ read) in
     let effect : a.runs.effect ≡ Gives value = same_some (effect_of q n.state.memory a.inst a.read) a.runs.effect (Gives value) a.runs.is
-        (ap (λ (i : Inst). effect_of q n.state.memory i a.read) here ∙ ap (effect_of q n.state.memory x) one ∙ operation_effect q n.state.memory x reads scalar ∙ ap (option_map Gives) is) in
+    (ap (λ (i : Inst). effect_of q n.state.memory i a.read) here ∙ ap (effect_of q n.state.memory x) one ∙ operation_effect q n.state.memory x reads scalar ∙ ap (option_map Gives) is) in
     stepped_by words n a
     ∙ ap (λ (i : Inst). led q n.place (after_effect i n.state a.runs.effect)) here
     ∙ ap (λ (e : Effect). led q n.place (after_effect x n.state e)) effect

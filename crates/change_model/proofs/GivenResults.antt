@@ -1,5 +1,5 @@
 -- An instruction gives its own id a value, if any.
-use Rattle.std.proofs.Common.{◌≡◌, ℕ, ◌==◌, ◌||◌, Bool, true, false, if◌then◌else◌, List, [], ◌∷◌, drop, slice_index, refl, ap, sym, ◌∙◌, Option, None, Some}
+use Rattle.std.proofs.Common.{◌≡◌, ℕ, ◌==◌, Bool, true, false, if◌then◌else◌, List, [], ◌∷◌, drop, slice_index, refl, ap, ◌∙◌, Option, None, Some}
 use Rattle.std.specs.Option.{option_map, option_and_then}
 use Rattle.spirv_model.specs.declared.module.Inst.{Inst}
 use Rattle.spirv_model.specs.declared.op.TheConstants as op
@@ -80,7 +80,6 @@ defines_variable = refl
 
 variable_id : (inst : Inst) → inst.op == op.VARIABLE ≡ true → result inst ≡ Some (word_at 1 inst)
 variable_id inst is = defined_id inst (ap (λ (o : ℕ). defines (class_of o)) (op_is inst.op op.VARIABLE is) ∙ defines_variable)
-
 
 -- an instruction's effect gives its own result a value
 pub gives_result : (program : Program) (memory : Memory) (inst : Inst) (values : List Value) (value : Value) → effect_of program memory inst values ≡ Some (Gives value) → result inst ≡ Some (word_at 1 inst)

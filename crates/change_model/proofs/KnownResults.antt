@@ -1,26 +1,20 @@
 -- An instruction whose result is known before: without it, and with its value from the start, the machine does the same in fewer steps.
-use Rattle.std.proofs.Common.{◌≡◌, ℕ, zero, suc, ◌+◌, ◌-◌, ◌<◌, ◌≤◌, ◌==◌, ◌&&◌, ◌⊎◌, inl, inr, Bool, true, false, nat_le, nat_lt, if◌then◌else◌, List, [], ◌∷◌, ◌++◌, length, take, drop, slice_index, refl, ap, sym, ◌∙◌, subst, arith, Option, None, Some}
+use Rattle.std.proofs.Common.{◌≡◌, ℕ, zero, suc, ◌+◌, ◌-◌, ◌<◌, ◌≤◌, ◌==◌, ◌&&◌, ◌⊎◌, inl, inr, Bool, true, false, nat_le, if◌then◌else◌, List, [], ◌∷◌, ◌++◌, length, take, drop, slice_index, refl, ap, sym, ◌∙◌, arith, Option, None, Some}
 use Rattle.std.proofs.Math.Path.{fun_ext}
 use Rattle.std.specs.Prelude.{slice_get}
 use Rattle.std.specs.Option.{option_map, option_and_then}
 use Rattle.std.proofs.lemmas.Bool.{cases_lt}
 use Rattle.std.proofs.lemmas.Bool.Decides.{nat_tests}
-use Rattle.limits.specs.declared.TheConstants.{BACK_EDGES}
 use Rattle.spirv_model.specs.declared.module.Inst.{Inst}
-use Rattle.spirv_model.specs.declared.module.Words.{Words}
 use Rattle.spirv_model.specs.declared.op.TheConstants as op
-use Rattle.spirv_model.specs.Operands.{word_at, class_of, result}
-use Rattle.valid_model.specs.Definitions.{gives, inst_at}
-use Rattle.check_model.specs.Validity.{IsValidList}
-use Rattle.stage_model.specs.declared.outcome.Kind.{Kind}
-use Rattle.stage_model.specs.declared.outcome.Kind.TheVariants.{Done, Killed, Lost}
+use Rattle.spirv_model.specs.Operands.{word_at}
+use Rattle.valid_model.specs.Definitions.{inst_at}
 use Rattle.stage_model.specs.Value.{Value}
-use Rattle.stage_model.specs.Program.{Program, is_label, first_label_place, program_of}
+use Rattle.stage_model.specs.Program.{Program, is_label, first_label_place}
 use Rattle.stage_model.specs.Start.{Values, with_value, all_values}
 use Rattle.stage_model.specs.Effect.{Effect, Passes, Gives, Writes, Enters, Goes, Stops, read_ids, effect_of}
-use Rattle.stage_model.specs.Machine.{State, Flow, Next, To, Stopped, read_from, read_values, after_effect, counted, done, Machine, Step, GoesOn, Ends, at, back_to, jump, led, step}
-use Rattle.change_model.specs.Keeping.{IsKept}
-use Rattle.change_model.specs.Programs.{MeanSame, AreProgramsAlike}
+use Rattle.stage_model.specs.Machine.{State, Flow, Next, read_values, after_effect, counted, done}
+use Rattle.change_model.specs.Programs.{MeanSame}
 use Rattle.change_model.proofs.SameEffects.{effect_same}
 
 -- ---- states with a value more
@@ -204,10 +198,10 @@ pub get_moved : (insts : List Inst) (gone place : ℕ) → (place ≡ gone → �
 get_moved insts gone place other = elim (cases_lt place gone) [
   | inl less ↦ ap (slice_get (without_one gone insts)) (upto gone place (omega (arith, less))) ∙ get_upto insts gone place less
   | inr rest ↦ elim (cases_lt gone place) [
-      | inl more ↦ ap (slice_get (without_one gone insts)) (past gone place more) ∙ get_past insts gone (place - 1) (omega (arith, more))
-          ∙ ap (slice_get insts) {x = suc (place - 1)} {y = place} (omega (arith, more))
-      | inr less ↦ absurd (other (omega (arith, less, rest)))
-    ]
+    | inl more ↦ ap (slice_get (without_one gone insts)) (past gone place more) ∙ get_past insts gone (place - 1) (omega (arith, more))
+        ∙ ap (slice_get insts) {x = suc (place - 1)} {y = place} (omega (arith, more))
+    | inr less ↦ absurd (other (omega (arith, less, rest)))
+  ]
 ]
 
 moved_more : (gone k : ℕ) → moved (suc gone) (suc k) ≡ suc (moved gone k)
@@ -249,15 +243,15 @@ label_moved (inst ∷ insts) (suc gone) label within isnt = by_test (is_label la
 pub back_same : (gone from to : ℕ) → (from ≡ gone → ⊥) → (to ≡ gone → ⊥) → nat_le (moved gone to) (moved gone from) ≡ nat_le to from
 back_same gone from to other also = elim (cases_lt from gone) [
   | inl a ↦ elim (cases_lt to gone) [
-      | inl b ↦ ap (λ (n : ℕ). nat_le n (moved gone from)) (upto gone to (omega (arith, b))) ∙ ap (nat_le to) (upto gone from (omega (arith, a)))
-      | inr b ↦ let c : gone < to = above to gone b also in
-          ap (λ (n : ℕ). nat_le n (moved gone from)) (past gone to c) ∙ ap (nat_le (to - 1)) (upto gone from (omega (arith, a))) ∙ both_false gone from to a c
-    ]
+    | inl b ↦ ap (λ (n : ℕ). nat_le n (moved gone from)) (upto gone to (omega (arith, b))) ∙ ap (nat_le to) (upto gone from (omega (arith, a)))
+    | inr b ↦ let c : gone < to = above to gone b also in
+        ap (λ (n : ℕ). nat_le n (moved gone from)) (past gone to c) ∙ ap (nat_le (to - 1)) (upto gone from (omega (arith, a))) ∙ both_false gone from to a c
+  ]
   | inr a ↦ let d : gone < from = above from gone a other in elim (cases_lt to gone) [
-      | inl b ↦ ap (λ (n : ℕ). nat_le n (moved gone from)) (upto gone to (omega (arith, b))) ∙ ap (nat_le to) (past gone from d) ∙ both_true gone from to b d
-      | inr b ↦ let c : gone < to = above to gone b also in
-          ap (λ (n : ℕ). nat_le n (moved gone from)) (past gone to c) ∙ ap (nat_le (to - 1)) (past gone from d) ∙ both_less gone from to c d
-    ]
+    | inl b ↦ ap (λ (n : ℕ). nat_le n (moved gone from)) (upto gone to (omega (arith, b))) ∙ ap (nat_le to) (past gone from d) ∙ both_true gone from to b d
+    | inr b ↦ let c : gone < to = above to gone b also in
+        ap (λ (n : ℕ). nat_le n (moved gone from)) (past gone to c) ∙ ap (nat_le (to - 1)) (past gone from d) ∙ both_less gone from to c d
+  ]
 ]
   where
     above : (n gone : ℕ) → gone ≤ n → (n ≡ gone → ⊥) → gone < n

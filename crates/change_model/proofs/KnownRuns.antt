@@ -1,5 +1,5 @@
 -- The machine without an instruction whose result is known follows the one that has it.
-use Rattle.std.proofs.Common.{◌≡◌, ℕ, zero, suc, ◌+◌, ◌-◌, ◌<◌, ◌≤◌, ◌==◌, ◌&&◌, inl, inr, Bool, true, false, nat_le, if◌then◌else◌, List, [], ◌∷◌, length, drop, slice_index, refl, ap, sym, ◌∙◌, subst, arith, length-drop, Option, None, Some}
+use Rattle.std.proofs.Common.{◌≡◌, ℕ, suc, ◌+◌, ◌<◌, ◌≤◌, ◌==◌, ◌&&◌, inl, inr, Bool, true, false, nat_le, if◌then◌else◌, List, [], ◌∷◌, length, drop, slice_index, refl, ap, sym, ◌∙◌, subst, arith, Option, None, Some}
 use Rattle.std.specs.Prelude.{slice_get}
 use Rattle.std.specs.Option.{option_map, option_and_then}
 use Rattle.std.proofs.lemmas.Bool.{cases_lt}
@@ -17,10 +17,10 @@ use Rattle.stage_model.specs.declared.outcome.Kind.{Kind}
 use Rattle.stage_model.specs.declared.outcome.Kind.TheVariants.{Lost}
 use Rattle.stage_model.specs.Value.{Value}
 use Rattle.stage_model.specs.Program.{Program, is_label, first_label_place, program_of}
-use Rattle.stage_model.specs.Start.{Values, with_value, all_values}
+use Rattle.stage_model.specs.Start.{all_values}
 use Rattle.stage_model.specs.Effect.{Effect, Passes, Gives, Writes, Enters, Goes, Stops, read_ids, effect_of}
 use Rattle.stage_model.specs.Machine.{State, Flow, Next, To, Stopped, read_from, read_values, after_effect, done, Machine, Step, GoesOn, Ends, at, back_to, jump, led, step}
-use Rattle.stage_model.specs.Steps.{Steps, stays}
+use Rattle.stage_model.specs.Steps.{stays}
 use Rattle.stage_model.specs.Leads.{machine}
 use Rattle.stage_model.proofs.Comings.{one_step}
 use Rattle.stage_model.specs.Stage.{Given, Outcome, start_at, first_label, outcome_of, stage}
@@ -34,7 +34,7 @@ use Rattle.change_model.specs.Following.{Round, returns, ends, stops, Follows}
 use Rattle.change_model.specs.Programs.{AreProgramsAlike}
 use Rattle.change_model.proofs.Followed.{same_insts, stage_followed}
 use Rattle.change_model.proofs.GivenResults.{gives_result}
-use Rattle.change_model.proofs.KnownResults.{beside, IsKnown, StaysKnown, GivesOther, still_known, done_beside, given_own, known_now, without_one, moved, get_moved, label_moved, back_same}
+use Rattle.change_model.proofs.KnownResults.{beside, StaysKnown, GivesOther, still_known, done_beside, given_own, known_now, without_one, moved, get_moved, label_moved, back_same}
 use Rattle.change_model.proofs.SameFunction.{label_behind_front}
 use Rattle.change_model.proofs.SameStarts.{outcome_same}
 use Rattle.change_model.proofs.SettledValues.{only_there}
@@ -346,9 +346,9 @@ follows_beside : (words : Words) (v : IsValidList words) (new : List Inst) → A
 follows_beside words v new alike first first' gone own value Holds l g m n r = elim (cases_lt r.far gone) [
   | inl less ↦ other_round words v new alike first first' gone own value Holds l g m n r (λ e. absurd (omega (arith, less, e)))
   | inr rest ↦ elim (cases_lt gone r.far) [
-      | inl more ↦ other_round words v new alike first first' gone own value Holds l g m n r (λ e. absurd (omega (arith, more, e)))
-      | inr less ↦ own_round words v new first first' gone own value Holds g m n r (omega (arith, rest, less))
-    ]
+    | inl more ↦ other_round words v new alike first first' gone own value Holds l g m n r (λ e. absurd (omega (arith, more, e)))
+    | inr less ↦ own_round words v new first first' gone own value Holds g m n r (omega (arith, rest, less))
+  ]
 ]
 
 start_place : (insts : List Inst) (given : Given) (first : ℕ) → (start_at (program_of insts) given first).place ≡ first

@@ -1,10 +1,10 @@
 -- A list in which one instruction of the function is gone, and one more constant stands at the end of the module's level.
-use Rattle.std.proofs.Common.{◌≡◌, ℕ, zero, suc, ◌+◌, ◌-◌, ◌<◌, ◌≤◌, ◌==◌, ◌||◌, inl, inr, Bool, true, false, cond, nat_lt, if◌then◌else◌, List, [], ◌∷◌, ◌++◌, length, take, drop, refl, ap, sym, ◌∙◌, subst, arith, length-append, length-drop, take-append-drop, Option, None, Some}
+use Rattle.std.proofs.Common.{◌≡◌, ℕ, zero, suc, ◌+◌, ◌-◌, ◌<◌, ◌≤◌, ◌==◌, inl, inr, Bool, true, false, cond, nat_lt, if◌then◌else◌, List, [], ◌∷◌, ◌++◌, length, take, drop, refl, ap, sym, ◌∙◌, arith, length-append, length-drop, take-append-drop, Option, None, Some}
 use Rattle.std.specs.Prelude.{IsTrue, slice_get}
-use Rattle.std.specs.List.{find, position_or_len}
+use Rattle.std.specs.List.{find}
 use Rattle.std.proofs.lemmas.Bool.{cases_lt, lt-ltb}
 use Rattle.std.proofs.lemmas.Bool.Decides.{nat_tests}
-use Rattle.std.proofs.lemmas.List.{drop_at, drop-drop, drop_more, get_or-drop, get_or_append_left, get_or-append-add, get_or-take, length-take-le}
+use Rattle.std.proofs.lemmas.List.{drop-drop, drop_more, get_or-drop, get_or_append_left, get_or-append-add, get_or-take, length-take-le}
 use Rattle.std.proofs.lemmas.List.Sums.{position_or_len_is}
 use Rattle.std.proofs.lemmas.Option.{get_or_from_slice_get}
 use Rattle.spirv_model.specs.declared.module.Inst.{Inst}
@@ -124,9 +124,9 @@ new_front insts d gone constant isnt k less =
       | inl early ↦ ap (λ (i : Inst). i.op == op.LABEL) (get_or_append_left level (constant ∷ fn ∷ rest) no_instruction k (omega (arith, early, long)) ∙ get_or-take d.before insts k no_instruction early)
           ∙ old_front insts d k (omega (arith, early))
       | inr late ↦ elim (cases_lt d.before k) [
-          | inl more ↦ ap (λ (i : Inst). i.op == op.LABEL) (two_behind level rest constant fn d.before k long 1 (omega (arith, more, less))) ∙ function_no_label insts d
-          | inr upto ↦ ap (λ (i : Inst). i.op == op.LABEL) (two_behind level rest constant fn d.before k long 0 (omega (arith, late, upto))) ∙ isnt
-        ]
+        | inl more ↦ ap (λ (i : Inst). i.op == op.LABEL) (two_behind level rest constant fn d.before k long 1 (omega (arith, more, less))) ∙ function_no_label insts d
+        | inr upto ↦ ap (λ (i : Inst). i.op == op.LABEL) (two_behind level rest constant fn d.before k long 0 (omega (arith, late, upto))) ∙ isnt
+      ]
     ]
 
 -- the function stands there without the instruction

@@ -12,7 +12,7 @@ use Rattle.valid_model.specs.declared.meaning.Shape.TheVariants.{Array, Struct}
 use Rattle.state_model.specs.declared.buffers.Buffers.{Buffers}
 use Rattle.stage_model.specs.declared.inputs.Inputs.{Inputs}
 use Rattle.stage_model.specs.declared.outcome.Kind.{Kind}
-use Rattle.stage_model.specs.Program.{Program, held, held_type, member_offsets, members_offsets, offsets_in, block_offsets, component_offsets}
+use Rattle.stage_model.specs.Program.{Program, held_type, member_offsets, members_offsets, offsets_in, block_offsets, component_offsets}
 use Rattle.stage_model.specs.Start.{Memory, class_word, variable_word, first_memory}
 use Rattle.stage_model.specs.Machine.{State}
 use Rattle.stage_model.specs.Stage.{output_with, components_left, position_left, slots_left, left_by, outcome_of}

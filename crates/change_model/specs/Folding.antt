@@ -1,6 +1,6 @@
 -- The next change: a scalar operation on constants becomes a constant with its id, at the end of the module's level (SPIR-V specification,
 -- sections 3.49.7 "Constant-Creation Instructions" and 3.49.11 to 3.49.15).
-use Rattle.std.specs.Prelude.{ℕ, suc, ◌-◌, ◌==◌, List, [], ◌∷◌, ◌++◌, take, drop, Option, None, Some}
+use Rattle.std.specs.Prelude.{ℕ, suc, ◌-◌, List, [], ◌∷◌, ◌++◌, take, drop, Option, None, Some}
 use Rattle.std.specs.Option.{option_map, option_and_then}
 use Rattle.std.specs.List.{position_or_len}
 use Rattle.spirv_model.specs.declared.module.Inst.{Inst}
