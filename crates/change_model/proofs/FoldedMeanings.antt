@@ -94,7 +94,7 @@ without_more own made (inst ∷ insts) (suc gone) alone within other new old k =
 
 -- ---- of both lists
 
-by_level : (insts : List Inst) (d : Derives insts) → insts ≡ take d.before insts ++ (inst_at insts d.before ∷ drop (d.before + 1) insts)
+pub by_level : (insts : List Inst) (d : Derives insts) → insts ≡ take d.before insts ++ (inst_at insts d.before ∷ drop (d.before + 1) insts)
 by_level insts d =
     sym (take-append-drop d.before insts) ∙ ap (λ (l : List Inst). take d.before insts ++ l) (drop_more insts d.before no_instruction (within_list op.FUNCTION insts d.before d.begins.function))
 

@@ -12,6 +12,7 @@ pub mod FoldedKeeps
 pub mod FoldedMeanings
 pub mod FoldedOperations
 pub mod FoldedRuns
+pub mod FoldedWords
 pub mod GivenResults
 pub mod KnownResults
 pub mod KnownRuns
