@@ -68,25 +68,25 @@ pub record ComputesTo (words : Words) (v : IsValidList words) (gone : ℕ) (valu
   pub are : all_values (defined_by (program_of words.insts) entries (take (v.derivation.before + 1) (program_of words.insts).insts)) (words_from 2 (inst_at words.insts (v.derivation.before + 1 + gone))) ≡ Some reads
   pub is : operation (inst_at words.insts (v.derivation.before + 1 + gone)).op reads ≡ Some value
 
-record NoScalars : Type 0 where
-  decorate : is_scalar op.DECORATE ≡ false
-  member : is_scalar op.MEMBER_DECORATE ≡ false
-  variable : is_scalar op.VARIABLE ≡ false
-  label : is_scalar op.LABEL ≡ false
+pub record NoScalars : Type 0 where
+  pub decorate : is_scalar op.DECORATE ≡ false
+  pub member : is_scalar op.MEMBER_DECORATE ≡ false
+  pub variable : is_scalar op.VARIABLE ≡ false
+  pub label : is_scalar op.LABEL ≡ false
 
-no_scalars : NoScalars
+pub no_scalars : NoScalars
 unfolding class_of entry_of
 no_scalars = record { decorate = refl; member = refl; variable = refl; label = refl }
 
 -- ---- the programs
 
-module_found : (words : Words) (v : IsValidList words) (gone own type : ℕ) (constant : Inst) (value : Value) → IsFolded words v gone own type constant value → (opcode : ℕ) → is_scalar opcode ≡ false → constant.op == opcode ≡ false
+pub module_found : (words : Words) (v : IsValidList words) (gone own type : ℕ) (constant : Inst) (value : Value) → IsFolded words v gone own type constant value → (opcode : ℕ) → is_scalar opcode ≡ false → constant.op == opcode ≡ false
     → (p : Inst → Bool) → ((inst : Inst) → inst.op == opcode ≡ false → p inst ≡ false) → find p (moved_up (v.derivation.before + 1 + gone) constant words.insts) ≡ find p words.insts
 module_found words v gone own type constant value f opcode no_scalar isnt p none =
     find_moved_up p words.insts v.derivation gone constant (none constant isnt)
     (none (inst_at words.insts (v.derivation.before + 1 + gone)) (another is_scalar opcode no_scalar (inst_at words.insts (v.derivation.before + 1 + gone)).op f.scalar)) f.moves.within
 
-decorations_are : (words : Words) (v : IsValidList words) (gone own type : ℕ) (constant : Inst) (value : Value) → IsFolded words v gone own type constant value
+pub decorations_are : (words : Words) (v : IsValidList words) (gone own type : ℕ) (constant : Inst) (value : Value) → IsFolded words v gone own type constant value
     → (program_of (moved_up (v.derivation.before + 1 + gone) constant words.insts)).decoration ≡ (program_of words.insts).decoration
 unfolding program_of decoration_of
 decorations_are words v gone own type constant value f = fun_ext (λ id. fun_ext (λ decoration.
@@ -98,7 +98,7 @@ unfolding program_of offset_of
 offsets_are words v gone own type constant value f = fun_ext (λ id. fun_ext (λ member.
     ap (option_map (word_at 3)) (module_found words v gone own type constant value f op.MEMBER_DECORATE no_scalars.member f.no_member (places_member id member) (λ inst isnt. rw isnt refl))))
 
-program_has : (insts : List Inst) → ((program_of insts).meaning ≡ meaning insts) × ((program_of insts).layout ≡ layouts_by (meaning insts) insts)
+pub program_has : (insts : List Inst) → ((program_of insts).meaning ≡ meaning insts) × ((program_of insts).layout ≡ layouts_by (meaning insts) insts)
 unfolding program_of
 program_has insts = (refl, refl)
 

@@ -49,7 +49,7 @@ use Rattle.change_model.proofs.Settlings.{constant_defines, op_is}
 
 -- ---- the function has no types and no constants
 
-abbrev IsAlone : ℕ → Type 0
+abbrev pub IsAlone : ℕ → Type 0
 IsAlone opcode = (is_type opcode ≡ false) × (is_constant opcode ≡ false)
 
 label_alone : IsAlone op.LABEL
@@ -72,7 +72,7 @@ loop_merge_alone : IsAlone op.LOOP_MERGE
 unfolding class_of entry_of
 loop_merge_alone = (refl, refl)
 
-function_alone : IsAlone op.FUNCTION
+pub function_alone : IsAlone op.FUNCTION
 unfolding class_of entry_of
 function_alone = (refl, refl)
 
@@ -123,7 +123,7 @@ end_alone insts d = by_found (slice_get insts d.after) refl d.function_end
     by_found None at is = absurd is
     by_found (Some inst) at is = subst IsAlone (sym (ap (λ (i : Inst). i.op) (get_or_from_slice_get insts d.after inst no_instruction at) ∙ is)) function_end_alone
 
-function_is_alone : (insts : List Inst) (d : Derives insts) (k : ℕ) → d.before + 1 ≤ k → k < length insts → IsAlone (inst_at insts k).op
+pub function_is_alone : (insts : List Inst) (d : Derives insts) (k : ℕ) → d.before + 1 ≤ k → k < length insts → IsAlone (inst_at insts k).op
 function_is_alone insts d k low within = elim (cases_lt k d.after) [
   | inl early ↦ part_alone (inst_at insts k) (part_at insts d k low early)
   | inr late ↦ let last = d.last in let e : d.after ≡ k = omega (arith, late, within, last) in subst (λ n. IsAlone (inst_at insts n).op) e (end_alone insts d)

@@ -1,6 +1,7 @@
 pub mod AlikeStates
 mod Worked
 pub mod Composing
+pub mod ConstantOperands
 pub mod ConstantsFit
 pub mod ConstantsKeep
 pub mod ConstantsShorten
@@ -8,6 +9,8 @@ pub mod ConstantsSound
 pub mod ConstantsStand
 pub mod ConstantsValid
 pub mod Followed
+pub mod FoldedConstants
+pub mod FoldedInterface
 pub mod FoldedKeeps
 pub mod FoldedMeanings
 pub mod FoldedOperations

@@ -32,7 +32,7 @@ function_there insts place (Some inst) at is = ap is_op_function (get_or_from_sl
     equal : (a b : ℕ) → a ≡ b → a == b ≡ true
     equal a b is = grind (arith, nat_tests)
 
-level_inst : (insts : List Inst) (d : Derives insts) (k : ℕ) → k < d.before → is_module_level (inst_at insts k).op ≡ true
+pub level_inst : (insts : List Inst) (d : Derives insts) (k : ℕ) → k < d.before → is_module_level (inst_at insts k).op ≡ true
 level_inst insts d k less =
     let within = within_list op.FUNCTION insts d.before d.begins.function in
     let long = length-take-le d.before insts in

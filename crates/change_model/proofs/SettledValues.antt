@@ -87,7 +87,7 @@ value_stays program entries values inst id isnt = by_defines (defines_op inst.op
         ∙ other_value (word_at 1 inst) id (Some value) values (sym (ap (has_result id) (defined_id inst is)) ∙ isnt)
     by_defines false isnt_one (Some value) some = let e = sym (no_value program entries values inst.op inst.words isnt_one) ∙ some in cc
 
-values_stay : (program : Program) (entries : SpecValues) (insts : List Inst) (values : Values) (id : ℕ) → ((k : ℕ) → k < length insts → gives id (inst_at insts k) ≡ false)
+pub values_stay : (program : Program) (entries : SpecValues) (insts : List Inst) (values : Values) (id : ℕ) → ((k : ℕ) → k < length insts → gives id (inst_at insts k) ≡ false)
     → fold (with_definition program entries) values insts id ≡ values id
 values_stay program entries [] values id none = refl
 values_stay program entries (inst ∷ insts) values id none =
@@ -117,7 +117,7 @@ own_value program entries values inst (Some value) is none =
     self : (a : ℕ) → a == a ≡ true
     self a = grind (arith, nat_tests)
 
-by_parts : (program : Program) (entries : SpecValues) (insts : List Inst) (n : ℕ) → defined_by program entries insts ≡ fold (with_definition program entries) (defined_by program entries (take n insts)) (drop n insts)
+pub by_parts : (program : Program) (entries : SpecValues) (insts : List Inst) (n : ℕ) → defined_by program entries insts ≡ fold (with_definition program entries) (defined_by program entries (take n insts)) (drop n insts)
 unfolding defined_by
 by_parts program entries insts n =
     ap (fold (with_definition program entries) no_values) (sym (take-append-drop n insts)) ∙ fold-append (with_definition program entries) no_values (take n insts) (drop n insts)
