@@ -53,9 +53,9 @@ unfolding ids kinds entry_of
 same_ids words = refl
 
 -- the first two words are ids
-record FirstTwo (inst : Inst) : Type 0 where
-  rest : List ℕ
-  are : ids inst ≡ word_at 0 inst ∷ word_at 1 inst ∷ rest
+pub record FirstTwo (inst : Inst) : Type 0 where
+  pub rest : List ℕ
+  pub are : ids inst ≡ word_at 0 inst ∷ word_at 1 inst ∷ rest
 
 two_of_true : (words : List ℕ) → is_some (kinds (record { op = op.SPEC_CONSTANT_TRUE; words = words })) ≡ true → FirstTwo (record { op = op.SPEC_CONSTANT_TRUE; words = words })
 unfolding ids kinds entry_of
@@ -151,7 +151,7 @@ bounded_by bound inst for two written is =
 well_by : (bound : ℕ) (inst for : Inst) → FirstTwo for → IsWritten bound (word_at 0 for) (word_at 1 for) inst → id_out_of_bound bound for ≡ false → IsSettledWell bound inst
 well_by bound inst for two written is = record { shaped = written.shaped; bounded = bounded_by bound inst for two written is }
 
-scalar_well : (bound : ℕ) (inst : Inst) → FirstTwo inst → is_some (kinds inst) ≡ true → id_out_of_bound bound inst ≡ false → (value : Option Value)
+pub scalar_well : (bound : ℕ) (inst : Inst) → FirstTwo inst → is_some (kinds inst) ≡ true → id_out_of_bound bound inst ≡ false → (value : Option Value)
     → IsSettledWell bound (unwrap_or (scalar_constant (word_at 0 inst) (word_at 1 inst) value) inst)
 scalar_well bound inst two fits is None = record { shaped = fits; bounded = is }
 scalar_well bound inst two fits is (Some (Truth true)) = well_by bound _ inst two (true_written bound (word_at 0 inst) (word_at 1 inst)) is

@@ -32,11 +32,11 @@ use Rattle.change_model.proofs.Settlings.{settled_cons, settled_gone}
 
 -- ---- no rule is broken at any place of the old list
 
-record KeepsAll (words : Words) (place : ℕ) : Type 0 where
-  once : id_twice words.insts place ≡ None
-  inside : id_out_of_bound words.bound (inst_at words.insts place) ≡ false
-  types : bad_type words.insts place ≡ false
-  constants : bad_constant words.insts place ≡ false
+pub record KeepsAll (words : Words) (place : ℕ) : Type 0 where
+  pub once : id_twice words.insts place ≡ None
+  pub inside : id_out_of_bound words.bound (inst_at words.insts place) ≡ false
+  pub types : bad_type words.insts place ≡ false
+  pub constants : bad_constant words.insts place ≡ false
 
 no_rule : (place : ℕ) (twice : Option ℕ) (outside misdeclared unfit : Bool) → fault_of place twice outside misdeclared unfit ≡ None → (twice ≡ None) × (outside ≡ false) × (misdeclared ≡ false) × (unfit ≡ false)
 no_rule place (Some id) outside misdeclared unfit is = cc
@@ -45,7 +45,7 @@ no_rule place None false true unfit is = cc
 no_rule place None false false true is = cc
 no_rule place None false false false is = (refl, refl, refl, refl)
 
-keeps_all : (words : Words) → type_fault words ≡ None → (place : ℕ) → place < length words.insts → KeepsAll words place
+pub keeps_all : (words : Words) → type_fault words ≡ None → (place : ℕ) → place < length words.insts → KeepsAll words place
 unfolding type_fault rule_fault
 keeps_all words sound place within =
     let none = none_of_both (rule_fault words place) _ (no_first (type_fault_at words) (length words.insts) place sound within) in

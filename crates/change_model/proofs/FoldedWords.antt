@@ -29,23 +29,23 @@ use Rattle.change_model.proofs.FoldedMeanings.{by_level}
 
 -- ---- a scalar operation has at least three words behind its first
 
-abbrev is_type_operand : Option Operand → Bool
+abbrev pub is_type_operand : Option Operand → Bool
 is_type_operand (Some IdResultType) = true
 is_type_operand other = false
 
-abbrev is_result_operand : Option Operand → Bool
+abbrev pub is_result_operand : Option Operand → Bool
 is_result_operand (Some IdResult) = true
 is_result_operand other = false
 
-abbrev is_ref_operand : Option Operand → Bool
+abbrev pub is_ref_operand : Option Operand → Bool
 is_ref_operand (Some IdRef) = true
 is_ref_operand other = false
 
-type_operand : (o : Option Operand) → is_type_operand o ≡ true → o ≡ Some IdResultType
+pub type_operand : (o : Option Operand) → is_type_operand o ≡ true → o ≡ Some IdResultType
 type_operand (Some IdResultType) is = refl
 type_operand other is = cc
 
-result_operand : (o : Option Operand) → is_result_operand o ≡ true → o ≡ Some IdResult
+pub result_operand : (o : Option Operand) → is_result_operand o ≡ true → o ≡ Some IdResult
 result_operand (Some IdResult) is = refl
 result_operand other is = cc
 
@@ -54,29 +54,29 @@ ref_operand (Some IdRef) is = refl
 ref_operand other is = cc
 
 -- the operands begin with the result's type, the result and an id
-abbrev begins_so : Operands → Bool
+abbrev pub begins_so : Operands → Bool
 begins_so operands = is_type_operand operands.listed.0 && (is_result_operand operands.listed.1 && is_ref_operand operands.listed.2)
 
 abbrev implies : Bool → Bool → Bool
 implies true b = b
 implies false b = true
 
-abbrev is_long_row : ℕ → Option Entry → Bool
+abbrev pub is_long_row : ℕ → Option Entry → Bool
 is_long_row opcode (Some (Listed of operands)) = implies (is_scalar_class (Some of)) (begins_so operands)
 is_long_row opcode entry = true
 
 all_long : list_all (λ row. is_long_row row.op (Some row.entry)) ROWS ≡ true
 all_long = refl
 
-long_row : (opcode : ℕ) → is_long_row opcode (entry_of opcode) ≡ true
+pub long_row : (opcode : ℕ) → is_long_row opcode (entry_of opcode) ≡ true
 unfolding entry_of
 long_row opcode = in_rows is_long_row (λ opcode. refl) ROWS opcode all_long
 
-implied : (a b : Bool) → a ≡ true → implies a b ≡ true → b ≡ true
+pub implied : (a b : Bool) → a ≡ true → implies a b ≡ true → b ≡ true
 implied true b is so = so
 implied false b is so = cc
 
-both : (a b : Bool) → (a && b) ≡ true → (a ≡ true) × (b ≡ true)
+pub both : (a b : Bool) → (a && b) ≡ true → (a ≡ true) × (b ≡ true)
 both true b is = (refl, is)
 both false b is = cc
 

@@ -14,6 +14,7 @@ pub mod FoldedInterface
 pub mod FoldedKeeps
 pub mod FoldedMeanings
 pub mod FoldedOperations
+pub mod FoldedPlaces
 pub mod FoldedRuns
 pub mod FoldedWords
 pub mod GivenResults
