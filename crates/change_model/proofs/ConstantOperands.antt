@@ -100,17 +100,17 @@ gives_scalar insts entries values types inst has scalar is = by_tests (inst.op =
 
 -- ---- where it stands
 
--- from OpFunction on there are no constants
-no_constant_behind : (insts : List Inst) (d : Derives insts) (k : ℕ) → d.before ≤ k → k < length insts → is_constant (inst_at insts k).op ≡ false
-no_constant_behind insts d k low within = elim (cases_lt d.before k) [
-  | inl more ↦ (function_is_alone insts d k (omega (arith, more)) within).1
-  | inr upto ↦ let e : d.before ≡ k = omega (arith, low, upto) in subst (λ n. is_constant (inst_at insts n).op ≡ false) e (subst IsAlone (sym (function_op insts d)) function_alone).1
+-- from OpFunction on there are no types and no constants
+pub alone_behind : (insts : List Inst) (d : Derives insts) (k : ℕ) → d.before ≤ k → k < length insts → IsAlone (inst_at insts k).op
+alone_behind insts d k low within = elim (cases_lt d.before k) [
+  | inl more ↦ function_is_alone insts d k (omega (arith, more)) within
+  | inr upto ↦ let e : d.before ≡ k = omega (arith, low, upto) in subst (λ n. IsAlone (inst_at insts n).op) e (subst IsAlone (sym (function_op insts d)) function_alone)
 ]
 
 before_function : (insts : List Inst) (d : Derives insts) (k : ℕ) → k < length insts → is_constant (inst_at insts k).op ≡ true → k < d.before
 before_function insts d k within is = elim (cases_lt k d.before) [
   | inl early ↦ early
-  | inr late ↦ absurd (clash (is_constant (inst_at insts k).op) is (no_constant_behind insts d k late within))
+  | inr late ↦ absurd (clash (is_constant (inst_at insts k).op) is (alone_behind insts d k late within).1)
 ]
 
 -- the values of ids where the function begins

@@ -85,6 +85,7 @@ record StoodBehind (level tail : List Inst) (constant : Inst) (gone place : ℕ)
   other : old ≡ length level + gone → ⊥
   inst : inst_at (level ++ (constant ∷ without_one gone tail)) place ≡ inst_at (level ++ tail) old
   front : (p : Inst → Bool) → p constant ≡ false → p (inst_at tail gone) ≡ false → list_any p (take place (level ++ (constant ∷ without_one gone tail))) ≡ list_any p (take old (level ++ tail))
+  early : old < length level → take place (level ++ (constant ∷ without_one gone tail)) ≡ take old (level ++ tail)
 
 nothing_more : (a b : ℕ) → a ≡ 0 + b → a ≡ b
 nothing_more a b same = omega (arith, same)
@@ -105,6 +106,7 @@ stood_behind [] tail constant gone (suc place) there within differs =
       other = λ same. r.other (nothing_more r.old gone same);
       inst = r.inst;
       front = λ p isnt also. ap (λ (b : Bool). b || list_any p (take place (without_one gone tail))) isnt ∙ r.front p also;
+      early = λ less. absurd (omega (arith, less));
     }
 stood_behind (x ∷ level) tail constant gone zero there within differs = record {
   old = 0;
@@ -112,6 +114,7 @@ stood_behind (x ∷ level) tail constant gone zero there within differs = record
   other = λ same. no_sum (length level) gone same;
   inst = refl;
   front = λ p isnt also. refl;
+  early = λ less. refl;
 }
 stood_behind (x ∷ level) tail constant gone (suc place) there within differs =
     let r = stood_behind level tail constant gone place there (down place (length (level ++ (constant ∷ without_one gone tail))) within) (λ same. differs (ap (λ (n : ℕ). suc n) same)) in
@@ -121,6 +124,7 @@ stood_behind (x ∷ level) tail constant gone (suc place) there within differs =
       other = λ same. r.other (one_less r.old (length level) gone same);
       inst = r.inst;
       front = λ p isnt also. ap (λ (b : Bool). p x || b) (r.front p isnt also);
+      early = λ less. ap (λ (l : List Inst). x ∷ l) (r.early (down r.old (length level) less));
     }
 
 -- ---- of both lists
@@ -132,6 +136,7 @@ pub record StoodAt (insts : List Inst) (d : Derives insts) (gone : ℕ) (constan
   pub other : old ≡ d.before + 1 + gone → ⊥
   pub inst : inst_at (moved_up (d.before + 1 + gone) constant insts) place ≡ inst_at insts old
   pub front : (p : Inst → Bool) → p constant ≡ false → p (inst_at insts (d.before + 1 + gone)) ≡ false → list_any p (take place (moved_up (d.before + 1 + gone) constant insts)) ≡ list_any p (take old insts)
+  pub early : old < d.before → take place (moved_up (d.before + 1 + gone) constant insts) ≡ take old insts
 
 -- the function with its first instruction
 abbrev from_function : (insts : List Inst) → Derives insts → List Inst
@@ -164,6 +169,7 @@ stood_at insts d gone constant place there within differs =
       front = λ p isnt also. ap (λ (l : List Inst). list_any p (take place l)) e
           ∙ r.front p isnt (ap p (get_or-drop (d.before + 1) insts gone no_instruction) ∙ also)
           ∙ ap (λ (l : List Inst). list_any p (take r.old l)) (sym o);
+      early = λ less. ap (take place) e ∙ r.early (omega (arith, less, long)) ∙ ap (take r.old) (sym o);
     }
 
 -- the constant stands behind the level

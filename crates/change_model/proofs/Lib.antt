@@ -15,8 +15,10 @@ pub mod FoldedKeeps
 pub mod FoldedMeanings
 pub mod FoldedOperations
 pub mod FoldedPlaces
+pub mod FoldedRules
 pub mod FoldedRuns
 pub mod FoldedWords
+pub mod FoldedWritten
 pub mod GivenResults
 pub mod KnownResults
 pub mod KnownRuns
