@@ -1,5 +1,5 @@
--- A scalar operation on constant scalars is folded: the list does the same, in fewer steps and no more words.
-use Rattle.std.proofs.Common.{◌≡◌, ℕ, ◌+◌, ◌-◌, ◌<◌, ◌≤◌, ◌==◌, inl, inr, Bool, true, false, if◌then◌else◌, List, [], ◌∷◌, length, take, map, refl, ap, sym, ◌∙◌, subst, arith, Option, None, Some}
+-- A scalar operation on constant scalars is folded: the list does the same, in fewer steps and no more words, with the same interface.
+use Rattle.std.proofs.Common.{◌≡◌, ℕ, ◌+◌, ◌-◌, ◌<◌, ◌≤◌, ◌==◌, inl, inr, Bool, true, false, if◌then◌else◌, List, [], ◌∷◌, length, take, map, refl, ap, ◌∙◌, subst, arith, Option, None, Some}
 use Rattle.std.specs.Option.{option_map, option_and_then}
 use Rattle.std.proofs.lemmas.Bool.{cases_lt}
 use Rattle.spirv_model.specs.declared.module.Inst.{Inst}
@@ -24,11 +24,12 @@ use Rattle.typed_model.proofs.BlockParts.{clash}
 use Rattle.unit_model.specs.ConstantScalars.{constant_scalar}
 use Rattle.change_model.specs.Constants.{scalar_constant}
 use Rattle.change_model.specs.Folding.{all_constants, folded_value, with_folded, folded_at}
-use Rattle.change_model.specs.Keeping.{Keeps}
+use Rattle.change_model.specs.Keeping.{Keeps, HasInterfaceOf, IsChange}
 use Rattle.change_model.proofs.Composing.{keeps_same}
-use Rattle.change_model.proofs.ConstantOperands.{first_values, HoldScalars, hold_scalars}
+use Rattle.change_model.proofs.ConstantOperands.{HoldScalars, hold_scalars}
+use Rattle.change_model.proofs.FoldedInterface.{interface_folded}
 use Rattle.change_model.proofs.FoldedKeeps.{ComputesTo, function_op}
-use Rattle.change_model.proofs.FoldedOperations.{fold_keeps}
+use Rattle.change_model.proofs.FoldedOperations.{is_folded, fold_keeps}
 use Rattle.change_model.proofs.FoldedRuns.{is_scalar_class, is_scalar}
 use Rattle.change_model.proofs.FoldedWords.{fold_shortens}
 use Rattle.change_model.proofs.Followed.{same_insts}
@@ -114,24 +115,30 @@ no_scalar_function = refl
 abbrev with_constant : Words → (place : ℕ) → Option Inst → Words
 with_constant words place constant = record { bound = words.bound; insts = with_folded place words.insts constant }
 
+-- a list keeps what the one before does, and its interface
+abbrev KeepsBoth : List ℕ → Words → SpecValues → Words → Type 0
+KeepsBoth zeros new entries old = (Keeps zeros new entries old entries) × (HasInterfaceOf new.insts old.insts)
+
 one_folded : (zeros : List ℕ) (words : Words) (v : IsValidList words) (gone : ℕ) → v.derivation.before + 1 + gone < length words.insts → is_scalar (inst_at words.insts (v.derivation.before + 1 + gone)).op ≡ true → (entries : SpecValues)
     → (value : Value) → folded_value (constant_scalar words.insts) (inst_at words.insts (v.derivation.before + 1 + gone)) ≡ Some value → (constant : Inst)
     → scalar_constant (word_at 0 (inst_at words.insts (v.derivation.before + 1 + gone))) (word_at 1 (inst_at words.insts (v.derivation.before + 1 + gone))) (Some value) ≡ Some constant
-    → Keeps zeros (with_constant words (v.derivation.before + 1 + gone) (Some constant)) entries words entries
+    → KeepsBoth zeros (with_constant words (v.derivation.before + 1 + gone) (Some constant)) entries words
 one_folded zeros words v gone within scalar entries value folds constant is =
     let x = inst_at words.insts (v.derivation.before + 1 + gone) in
     let f = folds_to (constant_scalar words.insts) x value folds in
-    let h = hold_scalars words v entries (words_from 2 x) f.scalars f.operands in
-    record {
-      does = λ inputs buffers zero. fold_keeps words v gone constant value within scalar is h.level entries (computes_to words v gone value entries f h) inputs buffers;
-      words = fold_shortens words v gone constant value within scalar is;
-    }
+    let h = hold_scalars words v entries (words_from 2 x) f.scalars f.operands in (
+      record {
+        does = λ inputs buffers zero. fold_keeps words v gone constant value within scalar is h.level entries (computes_to words v gone value entries f h) inputs buffers;
+        words = fold_shortens words v gone constant value within scalar is;
+      },
+      interface_folded words v gone (word_at 1 x) (word_at 0 x) constant value (is_folded words v gone constant value within scalar is h.level),
+    )
 
 with_value_of : (zeros : List ℕ) (words : Words) (v : IsValidList words) (gone : ℕ) → v.derivation.before + 1 + gone < length words.insts → is_scalar (inst_at words.insts (v.derivation.before + 1 + gone)).op ≡ true → (entries : SpecValues)
     → (found : Option Value) → folded_value (constant_scalar words.insts) (inst_at words.insts (v.derivation.before + 1 + gone)) ≡ found → (constant : Option Inst)
     → scalar_constant (word_at 0 (inst_at words.insts (v.derivation.before + 1 + gone))) (word_at 1 (inst_at words.insts (v.derivation.before + 1 + gone))) found ≡ constant
-    → Keeps zeros (with_constant words (v.derivation.before + 1 + gone) constant) entries words entries
-with_value_of zeros words v gone within scalar entries found folds None is = let same = keeps_same zeros words entries in record { does = same.does; words = same.words }
+    → KeepsBoth zeros (with_constant words (v.derivation.before + 1 + gone) constant) entries words
+with_value_of zeros words v gone within scalar entries found folds None is = let same = keeps_same zeros words entries in (record { does = same.does; words = same.words }, record { stage = refl; inputs = refl; outputs = refl })
 with_value_of zeros words v gone within scalar entries None folds (Some constant) is = cc
 with_value_of zeros words v gone within scalar entries (Some value) folds (Some constant) is = one_folded zeros words v gone within scalar entries value folds constant is
 
@@ -139,7 +146,7 @@ abbrev pub with_fold : Words → ℕ → Words
 with_fold words place = record { bound = words.bound; insts = folded_at (constant_scalar words.insts) place words.insts }
 
 fold_behind : (zeros : List ℕ) (words : Words) (v : IsValidList words) (gone : ℕ) → v.derivation.before + 1 + gone < length words.insts → is_scalar (inst_at words.insts (v.derivation.before + 1 + gone)).op ≡ true → (entries : SpecValues)
-    → Keeps zeros (with_fold words (v.derivation.before + 1 + gone)) entries words entries
+    → KeepsBoth zeros (with_fold words (v.derivation.before + 1 + gone)) entries words
 unfolding folded_at
 fold_behind zeros words v gone within scalar entries =
     let x = inst_at words.insts (v.derivation.before + 1 + gone) in
@@ -161,12 +168,21 @@ behind_function insts d place is = elim (cases_lt place d.before) [
   ]
 ]
 
--- A valid module keeps what it does, in no more words, where a scalar operation on constant scalars is folded; any other stays as it is.
-pub constant_fold_keeps : (zeros : List ℕ) (words : Words) (v : IsValidList words) (place : ℕ) → place < length words.insts → is_scalar (inst_at words.insts place).op ≡ true → (entries : SpecValues)
-    → Keeps zeros (with_fold words place) entries words entries
-constant_fold_keeps zeros words v place within scalar entries =
+both_kept : (zeros : List ℕ) (words : Words) (v : IsValidList words) (place : ℕ) → place < length words.insts → is_scalar (inst_at words.insts place).op ≡ true → (entries : SpecValues) → KeepsBoth zeros (with_fold words place) entries words
+both_kept zeros words v place within scalar entries =
     let low = behind_function words.insts v.derivation place scalar in
     let first = v.derivation.before + 1 in
     let e : first + (place - first) ≡ place = omega (arith, low) in
-    subst (λ (n : ℕ). Keeps zeros (with_fold words n) entries words entries) e
+    subst (λ (n : ℕ). KeepsBoth zeros (with_fold words n) entries words) e
     (fold_behind zeros words v (place - first) (omega (arith, low, within)) (ap (λ (n : ℕ). is_scalar (inst_at words.insts n).op) e ∙ scalar) entries)
+
+-- A valid module keeps what it does, in no more words, where a scalar operation on constant scalars is folded; any other stays as it is.
+pub constant_fold_keeps : (zeros : List ℕ) (words : Words) (v : IsValidList words) (place : ℕ) → place < length words.insts → is_scalar (inst_at words.insts place).op ≡ true → (entries : SpecValues)
+    → Keeps zeros (with_fold words place) entries words entries
+constant_fold_keeps zeros words v place within scalar entries = (both_kept zeros words v place within scalar entries).0
+
+-- it is a change, if what comes of it is a valid module
+pub constant_fold_changes : (zeros : List ℕ) (words : Words) (v : IsValidList words) (place : ℕ) → place < length words.insts → is_scalar (inst_at words.insts place).op ≡ true → (entries : SpecValues)
+    → IsValidList (with_fold words place) → IsChange zeros (with_fold words place) entries words entries
+constant_fold_changes zeros words v place within scalar entries valid =
+    let kept = both_kept zeros words v place within scalar entries in record { valid = valid; keeps = kept.0; interface = kept.1 }

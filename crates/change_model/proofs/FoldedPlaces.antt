@@ -10,7 +10,7 @@ use Rattle.spirv_model.specs.declared.op.TheConstants as op
 use Rattle.spirv_model.specs.Operands.{result}
 use Rattle.body_model.specs.Grammar.{Derives}
 use Rattle.body_model.proofs.ModuleLevels.{within_list}
-use Rattle.valid_model.specs.Definitions.{has_result, gives, inst_at, no_instruction, definition, is_earlier, twice_by, id_twice}
+use Rattle.valid_model.specs.Definitions.{has_result, gives, inst_at, no_instruction, is_earlier, twice_by, id_twice}
 use Rattle.check_model.specs.Validity.{IsValidList}
 use Rattle.stage_model.specs.Value.{Value}
 use Rattle.typed_model.proofs.BlockParts.{clash}
