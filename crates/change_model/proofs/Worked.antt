@@ -8,6 +8,7 @@ use Rattle.spirv_model.specs.Operands.{result, entry_of, class_of}
 use Rattle.scalar_model.specs.Scalars.{scalar_result, word_from_word, arithmetic, bitwise, comparison, truth_from_truth, truth_from_truths}
 use Rattle.state_model.specs.declared.parts.SpecValues.{SpecValues}
 use Rattle.body_model.proofs.SampleModules.{f1, f2, f5}
+use Rattle.valid_model.specs.Definitions.{definition}
 use Rattle.valid_model.specs.Meanings.{known_by, known_after, known_of}
 use Rattle.valid_model.specs.Types.{type_of}
 use Rattle.valid_model.specs.DecorationWords.{decoration_of, offset_of}
@@ -15,6 +16,7 @@ use Rattle.stage_model.specs.Program.{program_of, layouts_by}
 use Rattle.stage_model.specs.Start.{constant_of, defined_by}
 use Rattle.scalar_model.specs.declared.scalar_value.Scalar.{Scalar}
 use Rattle.scalar_model.specs.declared.scalar_value.Scalar.TheVariants.{Word as WordOf}
+use Rattle.unit_model.specs.ConstantScalars.{constant_scalar}
 use Rattle.change_model.specs.Folding.{moved_up, folded_at}
 use Rattle.change_model.specs.Constants.{settled, constants}
 
@@ -84,3 +86,9 @@ folded : folded_at (numbers_of 100 7) 14 (constants no_entry f2) ∷ folded_at (
     ≡ quotient 14 (constants no_entry f2) ∷ quotient 0 (constants (entry 0 0) f2) ∷ constants no_entry f2 ∷ []
 unfolding scalar_result word_from_word arithmetic bitwise comparison truth_from_truth truth_from_truths result entry_of class_of known_by known_after known_of type_of decoration_of offset_of program_of layouts_by constant_of defined_by settled constants moved_up folded_at
 folded = refl
+
+-- the numbers that the list itself tells; a specialization constant is none
+told : folded_at (constant_scalar (constants no_entry f2)) 14 (constants no_entry f2) ∷ folded_at (constant_scalar (constants (entry 0 0) f2)) 14 (constants (entry 0 0) f2) ∷ folded_at (constant_scalar f2) 15 f2 ∷ []
+    ≡ quotient 14 (constants no_entry f2) ∷ quotient 0 (constants (entry 0 0) f2) ∷ f2 ∷ []
+unfolding scalar_result word_from_word arithmetic bitwise comparison truth_from_truth truth_from_truths result entry_of class_of definition known_by known_after known_of type_of decoration_of offset_of program_of layouts_by constant_of defined_by settled constants moved_up folded_at constant_scalar
+told = refl
