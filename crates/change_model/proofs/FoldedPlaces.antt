@@ -1,15 +1,13 @@
 -- Where the instruction at a place stood before one of the function became a constant of the module's level, and that ids are given once.
-use Rattle.std.proofs.Common.{◌≡◌, ℕ, zero, suc, ◌+◌, ◌<◌, ◌≤◌, ◌==◌, ◌||◌, ◌⊎◌, inl, inr, Bool, true, false, if◌then◌else◌, List, [], ◌∷◌, ◌++◌, length, take, drop, refl, ap, sym, ◌∙◌, subst, arith, length-drop, Option, None, Some}
+use Rattle.std.proofs.Common.{◌≡◌, ℕ, zero, suc, ◌+◌, ◌<◌, ◌==◌, ◌||◌, ◌⊎◌, inl, inr, Bool, true, false, if◌then◌else◌, List, [], ◌∷◌, ◌++◌, length, take, drop, refl, ap, sym, ◌∙◌, subst, arith, length-drop, Option, None, Some}
 use Rattle.std.specs.List.{list_any}
 use Rattle.std.proofs.lemmas.Bool.{cases_lt, le-ltb}
-use Rattle.std.proofs.lemmas.List.{get_or-drop, get_or-append-add, length-take-le}
+use Rattle.std.proofs.lemmas.List.{get_or-drop, get_or-append-add}
 use Rattle.std.proofs.Math.Seq.{take-append_seam}
 use Rattle.spirv_model.specs.declared.module.Inst.{Inst}
 use Rattle.spirv_model.specs.declared.module.Words.{Words}
-use Rattle.spirv_model.specs.declared.op.TheConstants as op
 use Rattle.spirv_model.specs.Operands.{result}
 use Rattle.body_model.specs.Grammar.{Derives}
-use Rattle.body_model.proofs.ModuleLevels.{within_list}
 use Rattle.valid_model.specs.Definitions.{has_result, gives, inst_at, no_instruction, is_earlier, twice_by, id_twice}
 use Rattle.check_model.specs.Validity.{IsValidList}
 use Rattle.stage_model.specs.Value.{Value}
@@ -21,8 +19,8 @@ use Rattle.change_model.specs.Folding.{moved_up}
 use Rattle.change_model.proofs.FoldedKeeps.{IsFolded}
 use Rattle.change_model.proofs.FoldedMeanings.{by_level}
 use Rattle.change_model.proofs.KnownResults.{without_one}
-use Rattle.change_model.proofs.MovedUp.{moved_up_is}
-use Rattle.change_model.proofs.SettledPlaces.{earlier_is}
+use Rattle.change_model.proofs.MovedUp.{moved_up_is, level_long}
+use Rattle.change_model.proofs.SettledPlaces.{earlier_is, long_enough}
 use Rattle.change_model.proofs.SettledValues.{only_there}
 
 pub same_or_not : (a b : ℕ) → (a ≡ b) ⊎ (a ≡ b → ⊥)
@@ -146,9 +144,6 @@ new_is : (insts : List Inst) (d : Derives insts) (gone : ℕ) (constant : Inst) 
 unfolding without_one
 new_is insts d gone constant = moved_up_is insts d gone constant
 
-level_long : (insts : List Inst) (d : Derives insts) → length (take d.before insts) ≡ d.before
-level_long insts d = let within = within_list op.FUNCTION insts d.before d.begins.function in length-take-le d.before insts (omega (arith, within))
-
 pub stood_at : (insts : List Inst) (d : Derives insts) (gone : ℕ) (constant : Inst) (place : ℕ) → d.before + 1 + gone < length insts → place < length (moved_up (d.before + 1 + gone) constant insts) → (place ≡ d.before → ⊥)
     → StoodAt insts d gone constant place
 stood_at insts d gone constant place there within differs =
@@ -188,9 +183,6 @@ constant_there insts d gone constant =
     ∙ ap (λ (n : ℕ). inst_at (level ++ after) n) {x = d.before} {y = length level + 0} (omega (arith, long)) ∙ get_or-append-add level after 0 no_instruction
 
 -- ---- ids are given once
-
-long_enough : (a b : ℕ) → a < b → a ≤ b
-long_enough a b less = omega (arith, less)
 
 flip_same : (a b : ℕ) → a == b ≡ true → has_result b (Some a) ≡ true
 flip_same a b is = is

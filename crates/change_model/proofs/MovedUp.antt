@@ -87,7 +87,7 @@ find_moved_up p insts d gone constant isnt also within =
 
 -- ---- the function without the instruction
 
-level_long : (insts : List Inst) (d : Derives insts) → length (take d.before insts) ≡ d.before
+pub level_long : (insts : List Inst) (d : Derives insts) → length (take d.before insts) ≡ d.before
 level_long insts d = let within = within_list op.FUNCTION insts d.before d.begins.function in length-take-le d.before insts (omega (arith, within))
 
 drop_front : (level rest : List Inst) (a b : Inst) (n : ℕ) → length level ≡ n → drop (n + 2) (level ++ (a ∷ b ∷ rest)) ≡ rest

@@ -85,7 +85,7 @@ earlier_is (inst ∷ insts) id (suc place) within = by_test (gives id inst) (ear
 pub gives_kept : (f : Inst → Inst) → Settles f → (id : ℕ) → IsKeptTest f (gives id) (gives id)
 gives_kept f s id = record { kept = λ inst stays. gives_same id (f inst) inst (s inst); gone = λ inst is. gone_gives id inst is }
 
-long_enough : (a b : ℕ) → a < b → a ≤ b
+pub long_enough : (a b : ℕ) → a < b → a ≤ b
 long_enough a b less = omega (arith, less)
 
 pub earlier_same : (f : Inst → Inst) → Settles f → (insts : List Inst) (place : ℕ) → place < length (all_settled f insts) → (p : PlaceOf f insts place) → (id : ℕ)
