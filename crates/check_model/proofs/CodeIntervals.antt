@@ -14,14 +14,14 @@ use Rattle.check_model.specs.Intervals.{Interval, around, inside, of_arm, of_arm
 
 -- ---- the intervals of code that stands at a place
 
-abbrev past : ℕ → List Inst → ℕ
+abbrev pub past : ℕ → List Inst → ℕ
 past from xs = from + length xs
 
-abbrev between : ℕ → Code → List Interval → List Interval
+abbrev pub between : ℕ → Code → List Interval → List Interval
 between from code within = around from (past from (printed code)) within
 
 abbrev mutual
-  inside_code : Code → ℕ → List Interval
+  pub inside_code : Code → ℕ → List Interval
   inside_code (Ends block end) from = []
   inside_code (GoesOn block rest) from = inside_code rest (past from block)
   inside_code (Selects block cond merge on_true on_false if_true if_false rest) from =
@@ -35,11 +35,11 @@ abbrev mutual
       ++ (between (past (past (past from block) (printed condition)) (printed inner)) step (inside_code step (past (past (past from block) (printed condition)) (printed inner)))
       ++ inside_code rest (past (past (past (past from block) (printed condition)) (printed inner)) (printed step))))
 
-  inside_arm : CodeArm → ℕ → List Interval
+  pub inside_arm : CodeArm → ℕ → List Interval
   inside_arm Straight from = []
   inside_arm (Through code) from = between from code (inside_code code from)
 
-  inside_arms : CodeArms → ℕ → List Interval
+  pub inside_arms : CodeArms → ℕ → List Interval
   inside_arms NoArm from = []
   inside_arms (ArmBehind arms label code) from = inside_arms arms from ++ between (past from (printed_arms arms)) code (inside_code code (past from (printed_arms arms)))
 
