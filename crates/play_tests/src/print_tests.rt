@@ -1,5 +1,6 @@
 //! The texts of traces, and of the lines on standard error.
-use crate::samples::{DIVIDES, PLACED, trace_of};
+use crate::row_tests::prints;
+use crate::samples::{DIVIDES, PLACED};
 use body_model::TreeFault;
 use check_model::CheckFault;
 use draw_model::Targets;
@@ -11,8 +12,7 @@ use std::alloc::{AllocError, Global};
 use std::test::Fail;
 use trace_model::line_fault::{Cause, TraceFault};
 use trace_text::{
-    check_text, fault_line, links_text, memory_line, play_text, read_line, read_trace, usage_line,
-    write_line,
+    fault_line, links_text, memory_line, play_text, read_line, usage_line, write_line,
 };
 use valid_model::TypeFault;
 
@@ -78,11 +78,9 @@ fn both_links_of_a_pipe_are_told(rt: HostRuntime) -> Result<(), Fail> {
 
 #[test]
 fn modules_are_told_with_their_interfaces(rt: HostRuntime) -> Result<(), Fail> {
-    let trace = trace_of(rt.alloc(), "gplt 1\n", [PLACED, DIVIDES], "")?;
-    let trace = read_trace(rt.alloc(), trace.as_bytes())?;
-    let text = check_text(rt.alloc(), trace.modules.as_slice())?;
-    let expected = b"code 0 vertex 1 0 0 70\ncode 1 fragment 0 1 1 69\n";
-    assert_eq!(rt; text.as_slice(), expected.as_slice());
+    let call = ("check", "gplt 1\n");
+    let text = "code 0 vertex 1 0 0 70\ncode 1 fragment 0 1 1 69\n";
+    assert!(rt; prints(&rt, rt.alloc(), call, [PLACED, DIVIDES], "", text)?);
     Ok(())
 }
 
