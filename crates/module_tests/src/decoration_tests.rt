@@ -480,7 +480,9 @@ fn slots_offsets_and_strides(rt: HostRuntime) -> Result<(), Fail> {
         (op::DECORATE, &[20, decoration::DESCRIPTOR_SET, 3]),
     ];
     words.insts.append(list_of(rt.alloc(), slot, 30)?.insts)?;
-    words.insts.append(list_of(rt.alloc(), LAID_OUT, 30)?.insts)?;
+    words
+        .insts
+        .append(list_of(rt.alloc(), LAID_OUT, 30)?.insts)?;
     let ids = answer(&rt, &words)??;
     assert_eq!(rt; ids.slot(20), Some((3, 7)));
     assert_eq!(rt; ids.offset(13, 0), Some(0));

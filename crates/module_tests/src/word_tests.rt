@@ -4,9 +4,7 @@ use crate::sample_words::{QUOTIENT, UNIFORM_QUOTIENT};
 use crate::shader_words::{ATTRIBUTE, NUMBER, POINT};
 use limits::{MAX_BOUND, MODULE_WORDS};
 use spirv_model::{WordsFault, op};
-use spv_words::{
-    Entry, entry_of, ids, ids_are_below, read_module, result, write_module,
-};
+use spv_words::{Entry, entry_of, ids, ids_are_below, read_module, result, write_module};
 use std::alloc::{AllocError, Global};
 use std::process::Abort;
 use std::test::Fail;

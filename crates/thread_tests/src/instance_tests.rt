@@ -96,7 +96,11 @@ fn key_of(table: &Table<Keys>, at: usize) -> [u64; KEY_WORDS]
 }
 
 // The row of a key, with a pass that knows it.
-fn add_row(table: &Table<Keys>, creator: &mut Creator, key: &[u64; KEY_WORDS]) -> Result<(u32, Pass), u32>
+fn add_row(
+    table: &Table<Keys>,
+    creator: &mut Creator,
+    key: &[u64; KEY_WORDS],
+) -> Result<(u32, Pass), u32>
     requires table { creator_home_of creator.old ≡ id_of table.now }
     requires asked { Contains (fit_of table.now).keys.items key.now }
     ensures table { creator_home_of creator.new ≡ creator_home_of creator.old }
@@ -109,7 +113,13 @@ fn add_row(table: &Table<Keys>, creator: &mut Creator, key: &[u64; KEY_WORDS]) -
     }
 }
 
-fn put(table: &Table<Keys>, publisher: &mut Publisher, row: u32, note: Pass, words: &[u32]) -> Published
+fn put(
+    table: &Table<Keys>,
+    publisher: &mut Publisher,
+    row: u32,
+    note: Pass,
+    words: &[u32],
+) -> Published
     requires table { publisher_home_of publisher.old ≡ id_of table.now }
     requires by { home_of note ≡ id_of table.now }
     requires row { HasKey (view_of note) row }
@@ -249,7 +259,8 @@ fn one_record_is_accepted(rt: HostRuntime) -> Result<(), Fail> {
     let Ok((row, note)) = add_row(&table, &mut creator, &key) else {
         panic!(rt; "no room")
     };
-    let Published::Accepted { address, note } = put(&table, &mut publisher, row, note, &words) else {
+    let Published::Accepted { address, note } = put(&table, &mut publisher, row, note, &words)
+    else {
         panic!(rt; "not accepted")
     };
     assert_eq!(rt; address, Address { unit: 0, word: 1 });
@@ -451,7 +462,12 @@ fn create_row(table: &Table<OneLibrary>, creator: &mut Creator) -> Created
     creator.create(table, &key)
 }
 
-fn build_library(table: &Table<OneLibrary>, publisher: &mut Publisher, by: Pass, words: &[u32]) -> Published
+fn build_library(
+    table: &Table<OneLibrary>,
+    publisher: &mut Publisher,
+    by: Pass,
+    words: &[u32],
+) -> Published
     requires table { publisher_home_of publisher.old ≡ id_of table.now }
     requires by { home_of by ≡ id_of table.now }
     requires words { IsShortRecord words.now }
