@@ -249,12 +249,8 @@ fn one_record_is_accepted(rt: HostRuntime) -> Result<(), Fail> {
     let words = record(rt.alloc(), 68)?;
     let fits = is_record(&words);
     assert!(rt; fits);
-    let (table, mut pass, mut creator, mut publisher) = make_parts(
-        rt.alloc(),
-        three_keys(rt.alloc())?,
-        1,
-        70,
-    )?;
+    let keys = three_keys(rt.alloc())?;
+    let (table, mut pass, mut creator, mut publisher) = make_parts(rt.alloc(), keys, 1, 70)?;
     let key = key_of(&table, 0);
     let Ok((row, note)) = add_row(&table, &mut creator, &key) else {
         panic!(rt; "no room")
