@@ -23,7 +23,7 @@ impl Numbered for Job {
     ghost number = { λ job. job.number };
 }
 
-fn job(number: u32) -> Job
+fn job_of(number: u32) -> Job
     ensures { result.number ≡ number }
 {
     Job { number }
@@ -70,14 +70,14 @@ fn one_worker<N: QueueName, R: Threads + Wait + Sync>(
     let Some(mut pass) = passes.pop() else {
         unreachable!()
     };
-    workers.push_normal(rt, alloc, job(5)).map_err(memory)?;
+    workers.push_normal(rt, alloc, job_of(5)).map_err(memory)?;
     workers
-        .push_low(rt, alloc, &mut low_push, job(0))
+        .push_low(rt, alloc, &mut low_push, job_of(0))
         .map_err(memory)?;
-    workers.push_high(rt, alloc, job(9)).map_err(memory)?;
+    workers.push_high(rt, alloc, job_of(9)).map_err(memory)?;
     workers.close(rt);
     let came = work(rt, alloc, &workers, &mut pass)?;
-    workers.push_normal(rt, alloc, job(7)).map_err(memory)?;
+    workers.push_normal(rt, alloc, job_of(7)).map_err(memory)?;
     let late = work(rt, alloc, &workers, &mut pass)?;
     Ok([came, late])
 }
@@ -87,13 +87,13 @@ fn jobs_come_in_the_order_of_their_queues(rt: HostRuntime) -> Result<(), Fail> {
     let alloc = rt.alloc();
     let [came, late] = one_worker::<Brand, HostRuntime>(&rt, alloc, Queues::new(alloc, 1)?)?;
     let due = [
-        Taken::Job(Priority::High, job(9)),
-        Taken::Job(Priority::Normal, job(5)),
-        Taken::Job(Priority::Low, job(0)),
+        Taken::Job(Priority::High, job_of(9)),
+        Taken::Job(Priority::Normal, job_of(5)),
+        Taken::Job(Priority::Low, job_of(0)),
         Taken::Closed,
     ];
     assert_eq!(rt; came.as_slice(), due.as_slice());
-    let due_late = [Taken::Job(Priority::Normal, job(7)), Taken::Closed];
+    let due_late = [Taken::Job(Priority::Normal, job_of(7)), Taken::Closed];
     assert_eq!(rt; late.as_slice(), due_late.as_slice());
     Ok(())
 }
@@ -109,11 +109,11 @@ fn push_all<N: QueueName, R: Threads + Wait + Sync>(
     requires { (low_push.old.queue ≡ N.queues.low) × (low_push.old.pushed ≡ 0) }
 {
     for n in 0..jobs {
-        if let Err((back, _)) = workers.push_low(rt, alloc, low_push, job(n)) {
+        if let Err((back, _)) = workers.push_low(rt, alloc, low_push, job_of(n)) {
             workers.push_low(rt, alloc, low_push, back).map_err(memory)?;
         }
-        workers.push_normal(rt, alloc, job(n)).map_err(memory)?;
-        workers.push_high(rt, alloc, job(n)).map_err(memory)?;
+        workers.push_normal(rt, alloc, job_of(n)).map_err(memory)?;
+        workers.push_high(rt, alloc, job_of(n)).map_err(memory)?;
     }
     Ok(())
 }
@@ -271,9 +271,9 @@ fn wake<N: QueueName, R: Threads + Wait + Sync + Clock>(
 {
     thread::sleep(rt, Duration::from_millis(UNTIL_ASLEEP));
     let moved = match by {
-        Move::High => workers.push_high(rt, alloc, job(7)),
-        Move::Normal => workers.push_normal(rt, alloc, job(7)),
-        Move::Low => workers.push_low(rt, alloc, &mut low_push, job(0)),
+        Move::High => workers.push_high(rt, alloc, job_of(7)),
+        Move::Normal => workers.push_normal(rt, alloc, job_of(7)),
+        Move::Low => workers.push_low(rt, alloc, &mut low_push, job_of(0)),
         Move::Close => {
             workers.close(rt);
             Ok(())
@@ -282,8 +282,8 @@ fn wake<N: QueueName, R: Threads + Wait + Sync + Clock>(
     let wakes = awakes(rt, is_awake);
     if !wakes {
         workers.close(rt);
-        workers.push_high(rt, alloc, job(9)).map_err(memory)?;
-        workers.push_normal(rt, alloc, job(9)).map_err(memory)?;
+        workers.push_high(rt, alloc, job_of(9)).map_err(memory)?;
+        workers.push_normal(rt, alloc, job_of(9)).map_err(memory)?;
     }
     moved.map_err(memory)?;
     Ok(wakes)
@@ -318,9 +318,9 @@ fn woken<N: QueueName + Send + Sync, R: Threads + Wait + Sync + Clock>(
 #[test]
 fn each_move_wakes_a_sleeping_worker(rt: HostRuntime) -> Result<(), Fail> {
     let moves = [
-        (Move::High, Taken::Job(Priority::High, job(7))),
-        (Move::Normal, Taken::Job(Priority::Normal, job(7))),
-        (Move::Low, Taken::Job(Priority::Low, job(0))),
+        (Move::High, Taken::Job(Priority::High, job_of(7))),
+        (Move::Normal, Taken::Job(Priority::Normal, job_of(7))),
+        (Move::Low, Taken::Job(Priority::Low, job_of(0))),
         (Move::Close, Taken::Closed),
     ];
     for (by, due) in moves {
@@ -378,7 +378,7 @@ fn push_each<N: QueueName, R: Threads + Wait + Sync + Clock>(
     jobs: u32,
 ) -> Result<bool, Memory> {
     for n in 0..jobs {
-        workers.push_high(rt, alloc, job(n)).map_err(memory)?;
+        workers.push_high(rt, alloc, job_of(n)).map_err(memory)?;
         if !are_taken(rt, count, n + 1) {
             return Ok(false);
         }
