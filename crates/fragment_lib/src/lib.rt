@@ -55,31 +55,3 @@ pub fn depth_passes(compare: u8, new: u32, old: u32) -> bool
         _ => true,
     }
 }
-
-#[cfg(test)]
-mod tests {
-    use super::*;
-
-    // Never, less, equal, less or equal, greater, not equal, greater or equal, always.
-    const OF_GREATEST_WITH_LEAST: [bool; 8] = [false, false, false, false, true, true, true, true];
-
-    const OF_LEAST_WITH_GREATEST: [bool; 8] = [false, true, false, true, false, true, false, true];
-
-    #[test]
-    fn depths_are_signed(rt: HostRuntime) {
-        for compare in 0u8..8 {
-            let greater = depth_passes(compare, 0x7fff_ffff, 0x8000_0000);
-            assert_eq!(rt;
-                greater,
-                OF_GREATEST_WITH_LEAST[usize::from(compare)],
-                "comparison {compare}"
-            );
-            let less = depth_passes(compare, 0x8000_0000, 0x7fff_ffff);
-            assert_eq!(rt;
-                less,
-                OF_LEAST_WITH_GREATEST[usize::from(compare)],
-                "comparison {compare}"
-            );
-        }
-    }
-}

@@ -23,12 +23,3 @@ pub use still::run_still;
 pub use text::{TextOutcome, TextRunFault, text_fault_line, text_run};
 pub use trace_model::Serve;
 pub use trace_model::line_fault::{Cause, TraceFault};
-
-#[cfg(test)]
-mod row_tests;
-#[cfg(test)]
-mod samples;
-#[cfg(test)]
-mod target_tests;
-#[cfg(test)]
-mod tests;

@@ -15,4 +15,3 @@ pub mod Creations
 pub mod AddressLoads
 pub mod Publications
 pub mod Closing
-pub mod Sample

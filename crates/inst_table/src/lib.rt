@@ -12,8 +12,6 @@ mod rows;
 mod rule;
 mod setup;
 mod table;
-#[cfg(test)]
-mod tests;
 mod units;
 mod view;
 

@@ -46,11 +46,6 @@ set_limited [] n new h k = h
 set_limited (u ∷ ts) zero new h k = first_limited ts new (λ number t is. h (suc number) t is) k
 set_limited (u ∷ ts) (suc n) new h k = first_limited (slice_set ts n new) u (set_limited ts n new (λ number t is. h (suc number) t is) k) (h zero u refl)
 
--- one more
-pub limited_push : (ts : List Target) (new : Target) → AreLimited ts → IsLimited new → AreLimited (ts ++ new ∷ [])
-limited_push [] new h k = first_limited [] new (λ number t is. h number t is) k
-limited_push (u ∷ ts) new h k = first_limited (ts ++ new ∷ []) u (limited_push ts new (λ number t is. h (suc number) t is) k) (h zero u refl)
-
 -- the changed list is limited, too
 pub still_limited : (ts : List Target) (n : ℕ) (new changed : Target) → AreLimited ts → new ≡ changed → IsLimited changed → AreLimited (slice_set ts n new)
 still_limited ts n new changed h is k = set_limited ts n new h (subst IsLimited (sym is) k)

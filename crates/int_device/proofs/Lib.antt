@@ -3,7 +3,6 @@ mod CanvasLaws
 mod DrawLaws
 mod DrawRules
 mod FewInsts
-mod Fixtures
 mod Outputs
 mod PrimitiveLaws
 mod Ranges

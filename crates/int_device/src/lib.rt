@@ -3,8 +3,6 @@
 
 mod assembled;
 mod canvas;
-#[cfg(test)]
-mod draw_tests;
 mod drawing;
 mod fragment;
 mod primitive;

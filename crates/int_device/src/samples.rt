@@ -1,7 +1,7 @@
 //! The samples of a fragment, one by one.
-ghost use Rattle.std.specs.Prelude.{◌≡◌, ◌<◌, ◌≤◌, IfOk};
+ghost use Rattle.std.specs.Prelude.{◌≡◌, ◌<◌};
 ghost use Rattle.draw_model.specs.Pixel.{has_bit};
-ghost use Rattle.int_device.specs.SampleRules.{AreLimited, AreRules, IsLimited, IsPlace, told, locations_by, sample_by, samples_by};
+ghost use Rattle.int_device.specs.SampleRules.{AreRules, IsPlace, told, locations_by, sample_by, samples_by};
 
 use crate::canvas::Canvas;
 use crate::fragment::Fragment;
@@ -64,95 +64,4 @@ pub fn is_in_mask(mask: u8, sample: u8) -> bool
     ensures { result ≡ has_bit mask sample }
 {
     (mask >> sample) % 2 == 1
-}
-
-#[cfg(test)]
-mod tests {
-    use super::*;
-    use crate::sample_rules::{BoundAttachment, BoundDepth};
-    use draw_model::Targets;
-    use draw_model::framebuffer::{DEPTH_FORMAT, Target};
-    use sqlite_items::Items;
-    use state_model::format::FORMAT_R32G32_UINT;
-    use state_model::vulkan::{COMPARE_OP_LESS, LOGIC_OP_XOR};
-    use state_model::{Attachment, Depth};
-    use std::alloc::Global;
-    use std::test::Fail;
-
-    // One pixel with two samples.
-    fn target(alloc: Global, format: u8, words: &[u32]) -> Result<Target, Fail>
-        requires { 1 ≤ format }
-        ensures { IfOk result IsLimited }
-    {
-        Ok(Target {
-            format,
-            width: 1,
-            height: 1,
-            layers: 1,
-            samples: 2,
-            words: Items::from_slice(alloc, words)?,
-        })
-    }
-
-    // A colour target of two components, and a depth target.
-    #[tactic(auto, using(crate::proofs::CanvasLaws::limited_push))]
-    fn two_targets(alloc: Global) -> Result<Targets, Fail>
-        ensures { IfOk result (λ targets. AreLimited targets.list) }
-    {
-        let colour = target(alloc, FORMAT_R32G32_UINT, &[8, 8, 8, 8])?;
-        let depth = target(alloc, DEPTH_FORMAT, &[5, 5])?;
-        let mut list = Items::new(alloc);
-        list.push(colour)?;
-        list.push(depth)?;
-        Ok(Targets { list })
-    }
-
-    // Sample 1 alone, if the depth is less; and of the colour component 1 alone, with exclusive or.
-    fn rules() -> SampleRules
-        ensures { AreRules result }
-    {
-        let attachment = Attachment {
-            format: FORMAT_R32G32_UINT,
-            write_mask: 0b10,
-        };
-        let depth = Depth {
-            compare: COMPARE_OP_LESS,
-            write: true,
-        };
-        let mut attachments = [None; ATTACHMENTS];
-        attachments[0] = Some(BoundAttachment {
-            attachment,
-            number: 0,
-        });
-        SampleRules {
-            samples: 2,
-            mask: 0b10,
-            depth: Some(BoundDepth { depth, number: 1 }),
-            logic: Some(LOGIC_OP_XOR),
-            attachments,
-        }
-    }
-
-    #[test]
-    fn one_component_of_one_sample_is_written_once(rt: HostRuntime) -> Result<(), Fail> {
-        let mut targets = two_targets(rt.alloc())?;
-        let mut canvas = Canvas::open(rt.alloc(), &mut targets)?;
-        let f = Fragment {
-            layer: 0,
-            x: 0,
-            y: 0,
-            depth: 4,
-            front: true,
-            slots: [[0; COMPONENTS]; LOCATIONS],
-        };
-        for _ in 0..2 {
-            write_samples(&mut canvas, &rules(), &f, &[[1, 2, 3, 4]; LOCATIONS]);
-        }
-        canvas.close(&mut targets);
-        let list = targets.list.as_slice();
-        assert_eq!(rt; list.len(), 2);
-        assert!(rt; list[0].words.as_slice() == [8, 8, 8, 10].as_slice());
-        assert!(rt; list[1].words.as_slice() == [5, 4].as_slice());
-        Ok(())
-    }
 }

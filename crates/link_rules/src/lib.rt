@@ -56,6 +56,3 @@ pub fn link(libs: &Libs, optimise: bool) -> Result<(), Rule>
     }
     contents::link_contents(&counts::single_of(libs), optimise)
 }
-
-#[cfg(test)]
-mod tests;

@@ -1,12 +1,10 @@
-use crate::frame::{FRONT, add};
+use crate::frame::{FRONT, Listing, add, module, words_of};
 use body_model::TreeFault;
-use spirv_model::{MAGIC, VERSION, op};
+use spirv_model::op;
 use spv_check::{CheckFault, check};
 use std::alloc::{AllocError, Global};
 use std::test::Fail;
 use valid_model::TypeFault;
-
-type Insts = &'static [(u16, &'static [u32])];
 
 const EQUALS_BOUND: [(u16, &[u32]); 1] = [(op::I_ADD, &[3, 50, 11, 11])];
 
@@ -63,23 +61,9 @@ const SECOND_OUTPUT: [(u16, &[u32]); 2] = [
     (op::VARIABLE, &[4, 13, 3]),
 ];
 
-/// The words of a module with these types and constants and this block. Its ids are below 50.
-fn module(alloc: Global, types: Insts, block: Insts) -> Result<Vec<u32>, AllocError> {
-    let mut words = Vec::from_slice(alloc, &[MAGIC, VERSION, 0, 50, 0])?;
-    add(&mut words, &FRONT)?;
-    add(&mut words, types)?;
-    add(
-        &mut words,
-        &[(op::FUNCTION, &[1, 7, 0, 2]), (op::LABEL, &[20])],
-    )?;
-    add(&mut words, block)?;
-    add(&mut words, &[(op::RETURN, &[]), (op::FUNCTION_END, &[])])?;
-    Ok(words)
-}
-
 #[test]
 fn bad_ids_are_refused(rt: HostRuntime) -> Result<(), Fail> {
-    let cases: [(Insts, Insts, TypeFault); 6] = [
+    let cases: [(Listing, Listing, TypeFault); 6] = [
         (&[], &EQUALS_BOUND, TypeFault::IdOutOfBound(13)),
         (&STRUCT_OF_ITSELF, &[], TypeFault::BadType(11)),
         (&LONG_ARRAY, &[], TypeFault::BadType(12)),
@@ -99,7 +83,7 @@ fn bad_ids_are_refused(rt: HostRuntime) -> Result<(), Fail> {
 
 #[test]
 fn bad_uses_and_interfaces_are_refused(rt: HostRuntime) -> Result<(), Fail> {
-    let cases: [(Insts, Insts, CheckFault); 7] = [
+    let cases: [(Listing, Listing, CheckFault); 7] = [
         (&[], &SUM_OF_ITSELF, CheckFault::NotVisible(34)),
         (&TRUTH_TYPE, &TWO_FAULTS, CheckFault::NotVisible(34)),
         (&TRUTH_TYPE, &SUM_AS_TRUTH, CheckFault::OperandType(14)),
@@ -118,8 +102,7 @@ fn bad_uses_and_interfaces_are_refused(rt: HostRuntime) -> Result<(), Fail> {
 /// Selections in one another, at most 100: the block 100 + 2k is the arm of the one at depth k, and 101 + 2k its merge block.
 fn nested(alloc: Global, depth: u32) -> Result<Vec<u32>, AllocError> {
     let depth = depth.min(100);
-    let mut words = Vec::from_slice(alloc, &[MAGIC, VERSION, 0, 302, 0])?;
-    add(&mut words, &FRONT)?;
+    let mut words = words_of(alloc, &FRONT, 302)?;
     add(
         &mut words,
         &[(op::TYPE_BOOL, &[8]), (op::CONSTANT_TRUE, &[8, 9])],

@@ -1,14 +1,13 @@
-use crate::frame::{FRONT, add};
+use crate::frame::{FRONT, add, words_of};
 use limits::MODULE_WORDS;
-use spirv_model::{MAGIC, VERSION, op};
+use spirv_model::op;
 use spv_check::check;
 use std::alloc::{AllocError, Global};
 use std::test::Fail;
 
 /// The words of a module with so many sums, whose ids begin at 100, and two stores.
 fn sums(alloc: Global, count: u32) -> Result<Vec<u32>, AllocError> {
-    let mut words = Vec::from_slice(alloc, &[MAGIC, VERSION, 0, 10_000, 0])?;
-    add(&mut words, &FRONT)?;
+    let mut words = words_of(alloc, &FRONT, 10_000)?;
     add(
         &mut words,
         &[(op::FUNCTION, &[1, 7, 0, 2]), (op::LABEL, &[20])],

@@ -49,31 +49,3 @@ pub fn assemble(topology: Topology, vertices: u32, prim: u32) -> Option<u32>
         Topology::Triangles => (prim < vertices / 3).then(|| 3 * prim),
     }
 }
-
-#[cfg(test)]
-mod tests {
-    use super::*;
-
-    // Two triangles with an edge in common, on which the centres of two of the four pixels lie.
-    const LOW: [[u32; 4]; 3] = [[0, 0, 0, 0], [512, 0, 0, 0], [0, 512, 0, 0]];
-
-    const HIGH: [[u32; 4]; 3] = [[512, 0, 0, 0], [512, 512, 0, 0], [0, 512, 0, 0]];
-
-    #[test]
-    fn a_shared_edge_is_drawn_once(rt: HostRuntime) {
-        for x in 0u32..2 {
-            for y in 0u32..2 {
-                let low = covers(Topology::Triangles, &LOW, x, y);
-                let high = covers(Topology::Triangles, &HIGH, x, y);
-                assert!(rt; low != high, "pixel {x} {y}");
-            }
-        }
-    }
-
-    #[test]
-    fn whole_primitives(rt: HostRuntime) {
-        assert_eq!(rt; assemble(Topology::Triangles, 8, 1), Some(3));
-        assert_eq!(rt; assemble(Topology::Triangles, 8, 2), None);
-        assert_eq!(rt; assemble(Topology::Points, 1, 0), Some(0));
-    }
-}

@@ -9,8 +9,6 @@ mod low_queue;
 mod passes;
 mod plain_queue;
 mod taking;
-#[cfg(test)]
-mod tests;
 mod workers;
 
 pub use creation::Queues;

@@ -209,9 +209,9 @@ impl<J: Numbered + Drop, N: QueueName> Workers<J, N> {
 
 /// The pops of a worker pass.
 #[derive(Drop)]
-pub(crate) struct PassPops<'a, J: Numbered + Drop, N: QueueName> {
-    pub(crate) workers: &'a Workers<J, N>,
-    pub(crate) parts: PassParts<J>,
+struct PassPops<'a, J: Numbered + Drop, N: QueueName> {
+    workers: &'a Workers<J, N>,
+    parts: PassParts<J>,
     ghost belongs: { parts.queues ≡ N.queues },
 }
 

@@ -26,6 +26,3 @@ pub use check_model::{CheckFault, Stage};
 pub use checks::{check, check_list};
 pub use copy::valid_module;
 pub use module::Module;
-
-#[cfg(test)]
-mod operand_tests;

@@ -72,6 +72,3 @@ fn select(condition: bool, first: Scalar, second: Scalar) -> Option<Scalar>
         _ => None,
     }
 }
-
-#[cfg(test)]
-mod tests;

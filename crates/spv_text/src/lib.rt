@@ -14,6 +14,3 @@ pub use lines::assemble;
 pub use list::{list_text, modules_text};
 pub use listing_model::{LISTING_BYTES, ListFault, TextCause, TextFault};
 pub use spirv_model::WordsFault;
-
-#[cfg(test)]
-mod tests;

@@ -18,8 +18,3 @@ pub use sqlite_items::Boxed;
 pub use std::alloc::AllocError as Memory;
 pub use structure::tree_of;
 pub use tree::{Block, Body, Choice, Node, Pick, PickCase, Round, Run};
-
-#[cfg(test)]
-mod faulty_bodies;
-#[cfg(test)]
-mod tests;

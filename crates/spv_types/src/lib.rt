@@ -22,10 +22,3 @@ mod variables;
 
 pub use ids::{Ids, ids_of};
 pub use valid_model::{Meaning, Members, Shape, TypeFault};
-
-#[cfg(test)]
-mod decoration_tests;
-#[cfg(test)]
-mod samples;
-#[cfg(test)]
-mod tests;

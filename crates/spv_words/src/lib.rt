@@ -14,8 +14,3 @@ pub use spirv_model::{Inst, Items, Words, WordsFault};
 pub use std::alloc::AllocError as Memory;
 pub use table::{class_of, class_of_operand, entry_of};
 pub use write::write_module;
-
-#[cfg(test)]
-mod samples;
-#[cfg(test)]
-mod tests;

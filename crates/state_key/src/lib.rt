@@ -16,6 +16,3 @@ pub use state_model::{
     OutputPart, PrerastPart, Slot, SpecValues, State, Topology, VertexBinding, VertexPart,
 };
 pub use tidy::is_tidy;
-
-#[cfg(test)]
-mod tests;

@@ -37,8 +37,3 @@ pub use reading::{ReadFault, read_trace};
 pub use trace_model::Serve;
 pub use trace_model::line_fault::{Cause, TraceFault};
 pub use trace_model::whole::Trace;
-
-#[cfg(test)]
-mod print_tests;
-#[cfg(test)]
-mod reading_tests;

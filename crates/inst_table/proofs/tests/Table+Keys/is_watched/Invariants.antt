@@ -1,8 +1,0 @@
-use Rattle.std.proofs.Common.{◌≡◌}
-use Rattle.inst_table.proofs.tests.Table+Keys.is_watched.Given as goal
-
-abbrev pub invariant-loop : goal.invariant-loop
-invariant-loop l = l.pass.seat.table_id ≡ l.self.words.shared.table_id
-
-abbrev pub invariant-loop-at : goal.invariant-loop-at
-invariant-loop-at l = l.pass.seat.table_id ≡ l.self.words.shared.table_id

@@ -1,8 +1,0 @@
-use Rattle.std.proofs.Common.{◌≡◌}
-use Rattle.inst_table.proofs.tests.Table+Keys.put_all.Given as goal
-
-abbrev pub invariant-loop-at : goal.invariant-loop-at
-invariant-loop-at l = (l.publisher.seat.table_id ≡ l.self.words.shared.table_id) × (l.pass.seat.table_id ≡ l.self.words.shared.table_id)
-
-abbrev pub invariant-loop : goal.invariant-loop
-invariant-loop l = (l.publisher.seat.table_id ≡ l.self.words.shared.table_id) × (l.pass.seat.table_id ≡ l.self.words.shared.table_id)

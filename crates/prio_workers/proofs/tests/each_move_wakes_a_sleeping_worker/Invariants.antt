@@ -1,4 +1,0 @@
-use Rattle.prio_workers.proofs.tests.each_move_wakes_a_sleeping_worker.Given as goal
-
-abbrev pub ghosts-woken : goal.ghosts-woken
-ghosts-woken g a = record { queues = a.queues.queues }

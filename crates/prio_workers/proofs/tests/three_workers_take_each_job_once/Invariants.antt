@@ -1,4 +1,0 @@
-use Rattle.prio_workers.proofs.tests.three_workers_take_each_job_once.Given as goal
-
-abbrev pub ghosts-three_workers : goal.ghosts-three_workers
-ghosts-three_workers g a = record { queues = a.queues.queues }

@@ -1,0 +1,8 @@
+use Rattle.std.proofs.Common.{◌≡◌}
+use Rattle.thread_tests.proofs.instance_tests.put_all.Given as goal
+
+abbrev pub invariant-loop-at : goal.invariant-loop-at
+invariant-loop-at l = (l.publisher.seat.table_id ≡ l.table.words.shared.table_id) × (l.pass.seat.table_id ≡ l.table.words.shared.table_id)
+
+abbrev pub invariant-loop : goal.invariant-loop
+invariant-loop l = (l.publisher.seat.table_id ≡ l.table.words.shared.table_id) × (l.pass.seat.table_id ≡ l.table.words.shared.table_id)
