@@ -1,4 +1,4 @@
-use crate::{ReadFault, read_trace};
+use crate::{ReadFault, Trace, read_trace};
 use check_model::CheckFault;
 use draw_model::DrawCall;
 use limits::TRACE_BYTES;
@@ -10,7 +10,7 @@ use state_model::{
 use std::alloc::{AllocError, Global};
 use std::test::Fail;
 use trace_model::line_fault::{Cause, TraceFault};
-use trace_model::whole::{Library, Step, Trace};
+use trace_model::whole::{Library, Step};
 
 /// One point in colour 42 on a target of two pixels.
 const TRACE: &[u8] = b"\
