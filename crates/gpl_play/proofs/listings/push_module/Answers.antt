@@ -1,8 +1,7 @@
-use Rattle.std.proofs.Common.{◌≡◌, ℕ, List, true, ◌++◌, ap, sym, ◌∙◌, subst}
+use Rattle.std.proofs.Common.{◌≡◌, List, true, sym, subst}
 use Rattle.std.specs.List.{list_all}
 use Rattle.spirv_model.specs.declared.module.Inst.{Inst}
 use Rattle.spirv_model.specs.Module.{fits_table}
-use Rattle.listing_model.specs.ModuleTexts.{module_text}
 use Rattle.gpl_play.proofs.listings.push_module.Goals as goal
 
 pub push_module-requires : goal.push_module-requires
