@@ -1,8 +1,6 @@
 -- What is due to a trace or a listing, and that neither has a fault.
 use Rattle.std.proofs.Common.{◌≡◌, ℕ, List, sym, ◌∙◌, Option}
 use Rattle.std.specs.Prelude.{IfSome, Ok, Err}
-use Rattle.std.specs.List.{All}
-use Rattle.spirv_model.specs.Module.{IsWritable}
 use Rattle.listing_model.specs.Assembly.{assembled}
 use Rattle.listing_model.specs.ModuleTexts.{modules_text}
 use Rattle.listing_model.proofs.Assembled.{is_listing}
@@ -10,7 +8,6 @@ use Rattle.listing_model.proofs.Converse.{listing_gives}
 use Rattle.trace_model.specs.CodeText.{code_text}
 use Rattle.trace_model.specs.declared.line_fault.TraceFault.{TraceFault}
 use Rattle.trace_model.specs.declared.whole.Trace.{Trace}
-use Rattle.trace_model.specs.LawfulPlay.{LawfulTrace}
 use Rattle.trace_model.specs.Reading.{IsTraceOf, HasTraceFault}
 use Rattle.trace_model.proofs.ReadingLaws.{one_reading}
 use Rattle.gpl_play.specs.declared.call.StillCall.{StillCall}
@@ -26,10 +23,6 @@ use Rattle.gpl_play.proofs.Outcomes.{mapped}
 
 pub trace_or_fault : (bytes : List ℕ) (trace : Trace) (fault : TraceFault) → IsTraceOf bytes trace → HasTraceFault bytes fault → ⊥
 trace_or_fault bytes trace fault is has = let clash : Ok trace ≡ Err fault = one_reading bytes (Ok trace) (Err fault) is has in cc
-
--- its modules can be written
-pub modules_writable : (trace : Trace) → LawfulTrace trace → All IsWritable trace.modules
-modules_writable trace lawful = λ k d lt. (lawful.modules k d lt).valid.writable
 
 pub printed : (print : Trace → List ℕ) (left : Option (List ℕ)) (trace : Trace) (text : List ℕ) → IfSome left (λ bytes. IsTraceOf bytes trace) → text ≡ print trace
     → IfSome left (λ bytes. IsPrinted print bytes text)

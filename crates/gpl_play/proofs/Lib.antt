@@ -6,6 +6,7 @@ pub mod Outcomes
 pub mod PipeLinks
 pub mod PlayLaws
 pub mod PlaySteps
+pub mod SeveralModules
 pub mod Streams
 pub mod TextCalls
 pub mod Words

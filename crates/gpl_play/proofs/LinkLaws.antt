@@ -1,7 +1,7 @@
 -- The libraries of pipes, by the modules and the libraries of a trace alone.
-use Rattle.std.proofs.Common.{◌≡◌, ℕ, zero, suc, ◌+◌, ◌<◌, List, [], ◌∷◌, ◌++◌, take, reverse, refl, ap, sym, ◌∙◌, subst, append-nil, length, Option, None, Some}
+use Rattle.std.proofs.Common.{◌≡◌, ℕ, zero, suc, ◌+◌, ◌<◌, List, [], ◌∷◌, ◌++◌, take, refl, ap, sym, ◌∙◌, subst, append-nil, length, Option, None, Some}
 use Rattle.std.proofs.Math.Path.{fun_ext}
-use Rattle.std.proofs.lemmas.List.{take_more, reverse-append, append_assoc}
+use Rattle.std.proofs.lemmas.List.{take_more}
 use Rattle.std.proofs.lemmas.List.Elements.{All-nil, All-cons, All-head, All-tail, All-append, filter_map-append}
 use Rattle.std.specs.List.{All, filter_map, cons_option}
 use Rattle.std.specs.Option.{option_map_or}
@@ -65,19 +65,6 @@ one_library_more modules given more =
 pub middle : {A : Type 0} (P : A → Type 0) (front : List A) (x : A) (rest : List A) → All P (front ++ x ∷ rest) → P x
 middle P [] x rest h = All-head P x rest h
 middle P (y ∷ front) x rest h = middle P front x rest (All-tail P y (front ++ x ∷ rest) h)
-
-pub front_all : {A : Type 0} (P : A → Type 0) (front rest : List A) → All P (front ++ rest) → All P front
-front_all P [] rest h = All-nil P
-front_all P (y ∷ front) rest h = All-cons P y front (All-head P y (front ++ rest) h) (front_all P front rest (All-tail P y (front ++ rest) h))
-
--- the last of some is moved to the front of the others
-pub one_moved : {A : Type 0} (rest now moved all : List A) (x y : A) → rest ≡ now ++ x ∷ [] → y ≡ x → rest ++ reverse moved ≡ all → now ++ reverse (moved ++ y ∷ []) ≡ all
-one_moved rest now moved all x y is same h =
-    ap (λ zs. now ++ zs) (reverse-append moved (y ∷ []))
-    ∙ ap (λ z. now ++ z ∷ reverse moved) same
-    ∙ sym (append_assoc now (x ∷ []) (reverse moved))
-    ∙ ap (λ zs. zs ++ reverse moved) (sym is)
-    ∙ h
 
 -- ---- lawful parts
 

@@ -4,6 +4,7 @@
 mod call;
 mod ending;
 mod links;
+mod listings;
 mod outcome;
 mod play;
 mod player;

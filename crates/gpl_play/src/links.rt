@@ -1,7 +1,6 @@
 //! The links of a trace's pipes.
 ghost use Rattle.std.specs.Prelude.{◌≡◌, map, slice_get, IfOk, OnOk};
 ghost use Rattle.std.specs.List.{All, filter_map};
-ghost use Rattle.check_model.specs.Validity.{IsValidList};
 ghost use Rattle.link_rules.specs.Libs.{libraries};
 ghost use Rattle.link_rules.specs.Parts.{HoldsLawfulParts};
 ghost use Rattle.trace_model.specs.LawfulPlay.{IsLibrary};
@@ -14,27 +13,12 @@ use fragment_lib::FragmentLib;
 use link_rules::{Libs, link};
 use output_lib::OutputLib;
 use prerast_lib::PrerastLib;
-use spirv_model::Words;
-use spv_check::{Module, valid_module};
+use spv_check::Module;
 use sqlite_items::{Items, at};
 use state_model::{Rule, State};
 use std::alloc::{AllocError, Global};
 use trace_model::whole::Library;
 use vertex_lib::VertexLib;
-
-/// The modules, which are known to be valid.
-pub fn valid_modules(alloc: Global, list: Items<Words>) -> Result<Vec<Module>, AllocError>
-    requires { All IsValidList list }
-    ensures { IfOk result (λ modules. modules.items ≡ list) }
-{
-    let mut rest = list;
-    let mut modules = Vec::new(alloc);
-    while let Some(words) = rest.pop() {
-        modules.push(valid_module(alloc, words)?)?;
-    }
-    modules.reverse();
-    Ok(modules)
-}
 
 /// What each pipe links to, by its number: its state, or the first rule that fails.
 pub fn link_pipes(

@@ -6,7 +6,7 @@ ghost use Rattle.trace_model.specs.Playing.{RecordedDraw, after_linked, draws_of
 ghost use Rattle.trace_model.specs.declared.whole.Trace as trace;
 ghost use Rattle.gpl_play.specs.Plays.{Drawables, AreOf, AreLeftBy, IsDraw, IsDrawOf, IsPlayOf, drawn_by};
 
-use crate::links::{link_pipes, valid_modules};
+use crate::links::link_pipes;
 use crate::recorder::{dynamic_of, first_dynamic, take_line};
 use crate::state_modules::{fragment_module, module_at};
 use draw_model::framebuffer::Target;
@@ -17,8 +17,8 @@ use sqlite_items::Items;
 use state_model::{Buffers, Rule, State};
 use std::alloc::{AllocError, Global};
 use std::marker::Model;
-use trace_model::whole::{Step, Trace};
-use trace_text::play_text;
+use trace_model::whole::Step;
+use trace_text::{Trace, play_text};
 
 /// What all draws of a trace are made from.
 #[derive(Drop)]
@@ -59,7 +59,6 @@ pub fn text_of_play(alloc: Global, trace: Trace) -> Result<Vec<u8>, AllocError>
         targets,
         steps,
     } = trace;
-    let modules = valid_modules(alloc, modules)?;
     let links = link_pipes(alloc, modules.as_slice(), libs.as_slice(), pipes.as_slice())?;
     let objects = Objects {
         modules: modules.as_slice(),

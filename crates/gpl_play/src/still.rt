@@ -8,14 +8,13 @@ ghost use Rattle.gpl_play.specs.Runs.{IsStill, IsStillText, still_text, NoFault,
 
 use crate::call::{StillCall, still_call};
 use crate::ending::{ended, stopped, told};
-use crate::links::{rules_of_pipes, valid_modules};
+use crate::links::rules_of_pipes;
 use crate::outcome::Outcome;
 use crate::status::{DONE, NO_MEMORY, READ_FAILED, REFUSED, USAGE, WRITE_FAILED};
 use crate::take::take_trace;
 use gpl_edge::{Sink, Source};
 use std::alloc::{AllocError, Global};
-use trace_model::whole::Trace;
-use trace_text::{check_text, links_text};
+use trace_text::{Trace, check_text, links_text};
 
 /// Reads a trace, and writes what its modules are (`check`), or which of its pipes link (`links`). `words` are the program's
 /// words without its name. No other thread takes part. The first of these events ends the call: other words, a failed read,
@@ -80,7 +79,7 @@ pub fn run_still<S: Source, K: Sink>(
         return ended(USAGE);
     };
     match take_trace(alloc, source) {
-        Ok(trace) => match text_of(alloc, call, trace) {
+        Ok(trace) => match text_of(alloc, call, &trace) {
             Ok(text) => ended(told(sink, text.as_slice())),
             Err(_) => ended(NO_MEMORY),
         },
@@ -89,22 +88,16 @@ pub fn run_still<S: Source, K: Sink>(
 }
 
 /// The text that a call prints of a trace.
-fn text_of(alloc: Global, call: StillCall, trace: Trace) -> Result<Vec<u8>, AllocError>
-    requires { LawfulTrace trace }
-    ensures { IfOk result (λ text. text.items ≡ still_text call trace) }
+fn text_of(alloc: Global, call: StillCall, trace: &Trace) -> Result<Vec<u8>, AllocError>
+    requires { LawfulTrace trace.now }
+    ensures { IfOk result (λ text. text.items ≡ still_text call trace.now) }
 {
-    let Trace {
-        modules,
-        libs,
-        pipes,
-        ..
-    } = trace;
-    let modules = valid_modules(alloc, modules)?;
-    let modules = modules.as_slice();
+    let modules = trace.modules.as_slice();
     match call {
         StillCall::Check => check_text(alloc, modules),
         StillCall::Links => {
-            let rules = rules_of_pipes(alloc, modules, libs.as_slice(), pipes.as_slice())?;
+            let (libs, pipes) = (trace.libs.as_slice(), trace.pipes.as_slice());
+            let rules = rules_of_pipes(alloc, modules, libs, pipes)?;
             links_text(alloc, rules.as_slice())
         }
     }

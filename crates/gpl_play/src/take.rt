@@ -11,8 +11,7 @@ use gpl_edge::Source;
 use spv_text::{TextCause, TextFault, assemble};
 use std::alloc::Global;
 use trace_model::line_fault::TraceFault;
-use trace_model::whole::Trace;
-use trace_text::{ReadFault, read_trace};
+use trace_text::{ReadFault, Trace, read_trace};
 
 /// Why nothing was taken.
 #[derive(Drop)]

@@ -9,10 +9,11 @@ ghost use Rattle.gpl_play.specs.declared.call.TextCall.TheVariants.{Listings, As
 
 use crate::call::{TextCall, text_call};
 use crate::ending::told;
+use crate::listings::modules_text;
 use crate::status::{DONE, NO_MEMORY, READ_FAILED, REFUSED, USAGE, WRITE_FAILED};
 use crate::take::{Stop, take_trace, take_words};
 use gpl_edge::{Sink, Source};
-use spv_text::{TextFault, modules_text};
+use spv_text::TextFault;
 use std::alloc::{AllocError, Global};
 use thiserror::Error;
 use trace_model::line_fault::TraceFault;

@@ -2,7 +2,7 @@
 ghost use Rattle.std.specs.Prelude.{◌<◌};
 
 use crate::samples::{
-    DIVIDES, DRAW, FRAGMENT, FRAGMENT_END, PIPELINE, POINT, VERTEX, VERTEX_END, trace_of,
+    DIVIDES, DRAW, FRAGMENT, FRAGMENT_END, Module, PIPELINE, POINT, VERTEX, VERTEX_END, trace_of,
 };
 use gpl_edge::{FirmSource, MemSink, MemSource, NoGate, Sink, Source};
 use gpl_play::{
@@ -15,11 +15,11 @@ use std::thread::Threads;
 
 /// One point at (x, x) in a colour, on a target.
 fn scene(alloc: Global, x: &str, colour: &str, target: &str) -> Result<String, AllocError> {
-    let modules = [[VERTEX, x, VERTEX_END], [FRAGMENT, colour, FRAGMENT_END]];
+    let modules = [Module(VERTEX, x, VERTEX_END), Module(FRAGMENT, colour, FRAGMENT_END)];
     trace(alloc, modules, target)
 }
 
-fn trace(alloc: Global, modules: [[&str; 3]; 2], target: &str) -> Result<String, AllocError> {
+fn trace(alloc: Global, modules: [Module; 2], target: &str) -> Result<String, AllocError> {
     let lines = format!(in alloc; "{PIPELINE}target 0 u1 {target}\n{DRAW}")?;
     trace_of(alloc, "gplt 1\n", modules, lines.as_str())
 }
@@ -186,7 +186,7 @@ fn takes_no_other_words(rt: HostRuntime) -> Result<(), Fail> {
 fn refuses_what_is_no_trace(rt: HostRuntime) -> Result<(), Fail> {
     let text = point(rt.alloc())?;
     let (_, cut) = text.as_bytes().split_last().ok_or("empty")?;
-    let unknown = trace(rt.alloc(), [["data", "", ""]; 2], "2 1 1 1 00000000")?;
+    let unknown = trace(rt.alloc(), [Module("data", "", ""); 2], "2 1 1 1 00000000")?;
     for (bytes, line, cause) in [
         (cut, 12, Cause::BadLine),
         (b"".as_slice(), 1, Cause::NoHeader),

@@ -11,8 +11,8 @@ use state_model::{
 use std::alloc::{AllocError, Global};
 use std::test::Fail;
 use trace_model::line_fault::{Cause, TraceFault};
-use trace_model::whole::{Library, Step, Trace};
-use trace_text::{ReadFault, read_trace};
+use trace_model::whole::{Library, Step};
+use trace_text::{ReadFault, Trace, read_trace};
 
 /// Each form of line, in version 2.
 const LINES: &str = "\

@@ -3,7 +3,7 @@ use std::alloc::{AllocError, Global};
 
 /// A module's line in three parts.
 #[derive(Clone, Copy, Drop)]
-pub struct Module(pub &'static str, pub &'static str, pub &'static str);
+pub struct Module<'a>(pub &'a str, pub &'a str, pub &'a str);
 
 /// The words of the vertex module before the word of its position's x and y, and after it.
 pub const VERTEX: &str =

@@ -3,6 +3,5 @@ pub mod Entries
 pub mod FieldTexts
 pub mod Fitting
 pub mod NameTables
-pub mod SeveralModules
 pub mod SplitParts
 pub mod Strings

@@ -1,4 +1,5 @@
 pub mod Answers
+pub mod Modules
 pub mod Names
 pub mod Parts
 pub mod Pieces

@@ -11,6 +11,6 @@ mod parts;
 
 pub use fault_text::fault_line;
 pub use lines::assemble;
-pub use list::{list_text, modules_text};
+pub use list::{list_text, push_module};
 pub use listing_model::{LISTING_BYTES, ListFault, TextCause, TextFault};
 pub use spirv_model::WordsFault;

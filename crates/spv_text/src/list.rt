@@ -1,15 +1,16 @@
-ghost use Rattle.std.specs.Prelude.{◌≡◌, ◌<◌, ◌^◌, ◌++◌, length, IfOk, OnOk};
-ghost use Rattle.std.specs.List.{All};
-ghost use Rattle.spirv_model.specs.Module.{module_of, IsWritable};
+ghost use Rattle.std.specs.Prelude.{◌≡◌, ◌++◌, true, IfOk, OnOk};
+ghost use Rattle.std.specs.List.{list_all};
+ghost use Rattle.spirv_model.specs.Module.{fits_table, module_of};
 ghost use Rattle.listing_model.specs.Assembly.{listed_text};
 ghost use Rattle.listing_model.specs.Listing as spec;
 ghost use Rattle.listing_model.specs.ModuleTexts as several;
 ghost use Rattle.spv_text.specs.Answers.{GivesText};
+ghost use Rattle.spv_text.specs.Modules.{words_with};
 ghost use Rattle.spv_text.specs.Pieces.{AllFit};
 
 use crate::line::{push_decimal, push_inst};
 use listing_model::ListFault;
-use spirv_model::{Inst, Words, WordsFault};
+use spirv_model::{Inst, WordsFault};
 use spv_words::read_module;
 use std::alloc::{AllocError, Global};
 
@@ -26,34 +27,22 @@ pub fn list_text(alloc: Global, words: &[u32]) -> Result<Vec<u8>, ListFault>
     Ok(text)
 }
 
-/// The listings of modules that can be written, each behind a line with its number.
-#[tactic(auto, unfolding(listing_model::specs::ModuleTexts::modules_text))]
-pub fn modules_text(alloc: Global, modules: &[Words]) -> Result<Vec<u8>, AllocError>
-    requires writable { All IsWritable modules.now }
-    requires few { length modules.now < 2 ^ 32 }
-    ensures { IfOk result (λ text. text.items ≡ several.modules_text modules.now) }
-{
-    let mut text = Vec::new(alloc);
-    let mut number = 0;
-    let mut rest = modules;
-    while let Some((module, others)) = rest.split_first() {
-        push_module(&mut text, number, module)?;
-        number += 1;
-        rest = others;
-    }
-    Ok(text)
-}
-
-/// Pushes a line with a module's number, and the module's listing.
-fn push_module(text: &mut Vec<u8>, number: u32, module: &Words) -> Result<(), AllocError>
-    requires { IsWritable «module».now }
-    ensures { OnOk result
-        (text.new.items ≡ text.old.items ++ several.module_text (number, «module».now)) }
+/// Pushes a line with a module's number, and the listing of the module of this id bound and these instructions, which fit their
+/// operands.
+pub fn push_module(
+    text: &mut Vec<u8>,
+    number: u32,
+    bound: u32,
+    insts: &[Inst],
+) -> Result<(), AllocError>
+    requires { list_all fits_table insts.now ≡ true }
+    ensures { OnOk result (text.new.items ≡ text.old.items
+        ++ several.module_text (number, words_with bound insts.now)) }
 {
     text.extend_from_slice(b"code ")?;
     push_decimal(text, number)?;
     text.push(b'\n')?;
-    push_listing(text, module.bound, module.insts.as_slice())
+    push_listing(text, bound, insts)
 }
 
 /// The listing of instructions that fit their operands, and an id bound.

@@ -28,6 +28,7 @@ mod reading;
 mod recorder_lines;
 mod setup_lines;
 mod taking;
+mod whole;
 
 pub use fault_lines::{fault_line, memory_line, read_line, usage_line, write_line};
 pub use print_code::code_text;
@@ -36,4 +37,4 @@ pub use print_rules::{links_text, play_text};
 pub use reading::{ReadFault, read_trace};
 pub use trace_model::Serve;
 pub use trace_model::line_fault::{Cause, TraceFault};
-pub use trace_model::whole::Trace;
+pub use whole::Trace;

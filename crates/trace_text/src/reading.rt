@@ -1,5 +1,5 @@
 //! The reader of whole traces.
-ghost use Rattle.std.specs.Prelude.{◌≡◌, ◌≤◌, length, IfOk, Ok, Err};
+ghost use Rattle.std.specs.Prelude.{◌≡◌, ◌≤◌, length, Ok, Err};
 ghost use Rattle.basics.specs.Answer.{IsAnswer, UnlessMemory};
 ghost use Rattle.trace_model.proofs.ReadingLaws.{verdict_of};
 ghost use Rattle.trace_model.specs.declared.line_fault.TraceFault as declared;
@@ -11,15 +11,13 @@ ghost use Rattle.trace_text.specs.Taking.{before_of};
 
 use crate::field_cursor::FieldCursor;
 use crate::made::Made;
+use crate::whole::Trace;
 use limits::TRACE_BYTES;
-use spirv_model::Words;
-use spv_check::Module;
-use sqlite_items::Items;
 use state_model::Buffers;
-use std::alloc::{AllocError, Global};
+use std::alloc::Global;
 use thiserror::Error;
 use trace_model::line_fault::{Cause, TraceFault};
-use trace_model::whole::{Trace, Version};
+use trace_model::whole::Version;
 
 /// Why bytes give no trace.
 #[derive(Clone, Copy, Debug, Drop, PartialEq, Eq, Error)]
@@ -123,16 +121,13 @@ fn trace_of_lines(
     if !line.is_empty() {
         return Err(fault_at(number, Cause::BadLine));
     }
-    match made.into_trace(alloc) {
-        Ok(trace) => Ok(trace),
-        Err(_) => Err(fault_at(0, Cause::Memory)),
-    }
+    Ok(made.into_trace())
 }
 
 impl Made {
     /// The trace that the lines have made.
-    fn into_trace(self, alloc: Global) -> Result<Trace, AllocError>
-        ensures { IfOk result (λ trace. trace ≡ (before_of self).trace) }
+    fn into_trace(self) -> Trace
+        ensures { result ≡ (before_of self).trace }
     {
         let Made {
             modules,
@@ -143,8 +138,8 @@ impl Made {
             steps,
             ..
         } = self;
-        Ok(Trace {
-            modules: words_of(alloc, modules.into_items())?,
+        Trace {
+            modules: modules.into_items(),
             buffers: Buffers {
                 list: buffers.into_items(),
             },
@@ -152,19 +147,6 @@ impl Made {
             pipes: pipes.into_items(),
             targets: targets.into_items(),
             steps: steps.into_items(),
-        })
+        }
     }
-}
-
-/// The instructions and the bounds of modules.
-fn words_of(alloc: Global, modules: Items<Module>) -> Result<Items<Words>, AllocError>
-    ensures { IfOk result (λ words. words ≡ modules) }
-{
-    let mut rest = modules;
-    let mut words = Vec::new(alloc);
-    while let Some(module) = rest.pop() {
-        words.push(module.into_words())?;
-    }
-    words.reverse();
-    Ok(Items::from_vec(words))
 }

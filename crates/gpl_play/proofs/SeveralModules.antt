@@ -1,6 +1,6 @@
 -- The listings of several modules, with one module more.
-use Rattle.std.proofs.Common.{◌≡◌, ℕ, suc, ◌+◌, List, ◌∷◌, ◌++◌, ap, sym, ◌∙◌, subst, arith, append_assoc}
-use Rattle.std.specs.List.{All, flat_map, enumerate_from}
+use Rattle.std.proofs.Common.{◌≡◌, ℕ, ◌+◌, List, ◌∷◌, ◌++◌, ap, sym, ◌∙◌, append_assoc}
+use Rattle.std.specs.List.{flat_map, enumerate_from}
 use Rattle.spirv_model.specs.declared.module.Words.{Words}
 use Rattle.listing_model.specs.ModuleTexts.{module_text}
 
@@ -12,6 +12,3 @@ one_more text new whole number read rest others is same more =
     ∙ append_assoc text (module_text (number, read)) (flat_map module_text (enumerate_from (number + 1) others))
     ∙ ap (λ (r : List Words). text ++ flat_map module_text (enumerate_from number r)) (sym is)
     ∙ same
-
-pub all_behind : {X : Type 0} (P : X → Type 0) (rest others : List X) (x : X) → rest ≡ x ∷ others → All P rest → All P others
-all_behind {X} P rest others x is all = λ k d lt. subst (λ (r : List X). All P r) is all (suc k) d (omega (arith, lt))
