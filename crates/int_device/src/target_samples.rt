@@ -17,7 +17,7 @@ use state_model::vulkan::{COMPARE_OP_ALWAYS, LOGIC_OP_SET};
 use state_model::{Attachment, Depth};
 
 // Whether it has this format and sample count, and the fragment's pixel and layer.
-fn suits(target: &Target, format: u8, samples: u8, f: &Fragment) -> bool
+fn suits(target: &Target, format: u8, samples: u8, f: &Fragment<'_>) -> bool
     ensures { result ≡ suits format samples (told f.now) target.now }
 {
     target.format == format
@@ -60,7 +60,7 @@ fn place_after(pixel: u64, samples: u8, sample: u8, size: usize) -> usize
 
 // Where the words of a fragment's sample begin.
 #[tactic(auto, unfolding(draw_model::specs::TargetWords::sample_place))]
-fn place_of(target: &Target, f: &Fragment, sample: u8) -> usize
+fn place_of(target: &Target, f: &Fragment<'_>, sample: u8) -> usize
     requires limited { IsLimited target.now }
     requires within { IsPlace f.now }
     ensures place { result ≡ sample_place target.now f.now.layer f.now.x f.now.y sample }
@@ -116,7 +116,7 @@ fn write_words(words: &mut Items<u32>, place: usize, new: &[u32], size: usize)
 }
 
 #[tactic(auto, unfolding(draw_model::specs::TargetWords::sample_words))]
-fn read_sample(target: &Target, f: &Fragment, sample: u8) -> [u32; COMPONENTS]
+fn read_sample(target: &Target, f: &Fragment<'_>, sample: u8) -> [u32; COMPONENTS]
     requires limited { IsLimited target.now }
     requires within { IsPlace f.now }
     ensures { result ≡ four (sample_words target.now (told f.now) sample) }
@@ -126,7 +126,7 @@ fn read_sample(target: &Target, f: &Fragment, sample: u8) -> [u32; COMPONENTS]
 }
 
 #[tactic(auto, unfolding(draw_model::specs::TargetWords::with_sample))]
-fn store_sample(target: &mut Target, f: &Fragment, sample: u8, new: &[u32])
+fn store_sample(target: &mut Target, f: &Fragment<'_>, sample: u8, new: &[u32])
     requires limited { IsLimited target.old }
     requires within { IsPlace f.now }
     ensures { target.new ≡ with_sample target.old (told f.now) sample new.now }
@@ -138,7 +138,13 @@ fn store_sample(target: &mut Target, f: &Fragment, sample: u8, new: &[u32])
 
 /// Tests the depth of a fragment's sample and stores it where it passes, if the target is for it; and whether the sample
 /// goes on.
-pub fn test_depth(target: &mut Target, depth: Depth, samples: u8, f: &Fragment, sample: u8) -> bool
+pub fn test_depth(
+    target: &mut Target,
+    depth: Depth,
+    samples: u8,
+    f: &Fragment<'_>,
+    sample: u8,
+) -> bool
     requires limited { IsLimited target.old }
     requires within { IsPlace f.now }
     requires compare { depth.compare ≤ COMPARE_OP_ALWAYS }
@@ -162,7 +168,7 @@ pub fn write_output(
     attachment: Attachment,
     logic: Option<u8>,
     samples: u8,
-    f: &Fragment,
+    f: &Fragment<'_>,
     words: [u32; COMPONENTS],
     sample: u8,
 )
