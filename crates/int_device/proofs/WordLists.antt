@@ -1,7 +1,7 @@
 -- Words that are put into others one by one.
 use Rattle.std.proofs.Common.{◌≡◌, ℕ, zero, suc, ◌+◌, ◌<◌, ◌≤◌, List, [], ◌∷◌, ◌++◌, length, take, drop, refl, ap, sym, ◌∙◌, arith}
 use Rattle.std.specs.Prelude.{slice_index, slice_set}
-use Rattle.std.proofs.lemmas.List.{take_more, get_or-take, get_or-drop}
+use Rattle.std.proofs.lemmas.List.{take_more, get_or-take, get_or-drop, get_or-set_other}
 use Rattle.draw_model.specs.TargetWords.{words_set}
 
 set_past : (xs : List ℕ) (n v : ℕ) → length xs ≤ n → slice_set xs n v ≡ xs
@@ -43,3 +43,14 @@ component_past zero i words h = refl
 component_past (suc size) i [] h = refl
 component_past (suc size) zero (w ∷ words) h = absurd (omega (arith, h))
 component_past (suc size) (suc i) (w ∷ words) h = component_past size i words (omega (arith, h))
+
+-- what is put in in front of a place leaves the word there
+pub words_set_front : (ws xs : List ℕ) (place at : ℕ) → place + length ws ≤ at → slice_index (words_set place ws xs) at ≡ slice_index xs at
+words_set_front [] xs place at h = refl
+words_set_front (w ∷ ws) xs place at h =
+    words_set_front ws (slice_set xs place w) (place + 1) at (omega (arith, h)) ∙ get_or-set_other xs place at w 0 (λ same. omega (arith, h, same))
+
+pub length_take_at_most : (i : ℕ) (ws : List ℕ) → length (take i ws) ≤ i
+length_take_at_most zero ws = omega arith
+length_take_at_most (suc i) [] = omega arith
+length_take_at_most (suc i) (w ∷ ws) = let k = length_take_at_most i ws in omega (arith, k)

@@ -2,6 +2,7 @@
 use Rattle.std.specs.Prelude.{◌≡◌, ◌==◌, ℕ, ◌≤◌, if◌then◌else◌, List, [], ◌∷◌, map, filter, length, slice_index, slice_index_or}
 use Rattle.std.specs.List.{fold, flat_map, range_with_len}
 use Rattle.limits.specs.declared.TheConstants.{MODULE_WORDS}
+use Rattle.stage_model.specs.declared.inputs.Inputs.{Inputs}
 use Rattle.state_model.specs.declared.buffers.Buffers.{Buffers}
 use Rattle.state_model.specs.declared.parts.FragmentPart.{FragmentPart}
 use Rattle.state_model.specs.declared.parts.OutputPart.{OutputPart}
@@ -9,7 +10,7 @@ use Rattle.draw_model.specs.declared.command.Dynamic.{Dynamic}
 use Rattle.draw_model.specs.declared.framebuffer.Targets.{Targets}
 use Rattle.draw_model.specs.Coverage.{is_covered}
 use Rattle.draw_model.specs.Pixel.{has_bit}
-use Rattle.draw_model.specs.Invocation.{Fragment}
+use Rattle.draw_model.specs.Invocation.{Fragment, fragment_inputs}
 use Rattle.draw_model.specs.SampleWrites.{FragmentStage}
 use Rattle.draw_model.specs.WholeDraw.{layers_of, after_fragment, fragment_work}
 use Rattle.draw_model.specs.LawfulDraw.{IsSide}
@@ -24,14 +25,23 @@ pub record Shade : Type 0 where
   pub dynamic : Dynamic
   pub buffers : Buffers
 
+-- inputs with what is a fragment's own
+abbrev pub given_by : Inputs → Fragment → Inputs
+given_by inputs f = record inputs { slots = f.slots; frag_coord = f.x ∷ f.y ∷ f.depth ∷ 0 ∷ []; front = f.front }
+
+-- all is given that isn't a fragment's own
+abbrev pub IsGiven : Dynamic → Inputs → Type 0
+IsGiven dynamic inputs = (f : Fragment) → given_by inputs f ≡ fragment_inputs dynamic f
+
 -- the parts of one that is ready to run
-pub record IsShading (for : PreparedFor) (part : FragmentPart) (output : OutputPart) (dynamic : Dynamic) (rules : SampleRules) : Type 0 where
+pub record IsShading (for : PreparedFor) (part : FragmentPart) (output : OutputPart) (dynamic : Dynamic) (rules : SampleRules) (inputs : Inputs) : Type 0 where
   pub entries : for.entries ≡ part.entries
   pub few : length for.words.insts ≤ MODULE_WORDS
   pub ruled : rules ≡ rules_of (record { insts = for.words.insts; part = part; output = output }) dynamic
   pub limited : AreRules rules
   pub scissor_x : IsSide (slice_index dynamic.scissor 0) (slice_index dynamic.scissor 2)
   pub scissor_y : IsSide (slice_index dynamic.scissor 1) (slice_index dynamic.scissor 3)
+  pub given : IsGiven dynamic inputs
 
 -- after these fragments, with so much work
 pub record Draws (s : Shade) (before after : Targets) (work : ℕ) (fragments : List Fragment) : Type 0 where

@@ -69,7 +69,7 @@ pub record AreRules (rules : SampleRules) : Type 0 where
 
 -- the fragment of the device, as the definitions have it
 abbrev pub told : Shaded → Fragment
-told f = record { layer = f.layer; x = f.x; y = f.y; depth = f.depth; front = f.front; slots = f.slots }
+told f = record { layer = f.layer; x = f.x; y = f.y; depth = f.depth; front = f.front; slots = f.slots.now }
 
 -- it stands within the greatest target
 pub record IsPlace (f : Shaded) : Type 0 where

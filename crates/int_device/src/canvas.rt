@@ -56,7 +56,7 @@ impl Canvas {
         &mut self,
         bound: Option<BoundDepth>,
         samples: u8,
-        f: &Fragment,
+        f: &Fragment<'_>,
         sample: u8,
     ) -> bool
         requires within { IsPlace f.now }
@@ -80,7 +80,7 @@ impl Canvas {
         bound: Option<BoundAttachment>,
         logic: Option<u8>,
         samples: u8,
-        f: &Fragment,
+        f: &Fragment<'_>,
         words: [u32; COMPONENTS],
         sample: u8,
     )

@@ -2,7 +2,7 @@ use limits::{COMPONENTS, LOCATIONS};
 
 /// One pixel of a layer that a primitive covers, with the primitive's depth, facing and outputs.
 #[derive(Debug, Drop)]
-pub struct Fragment {
+pub struct Fragment<'a> {
     /// The layer's number, below 4.
     pub layer: u8,
     /// In pixels, below 256.
@@ -14,5 +14,5 @@ pub struct Fragment {
     /// Whether the primitive is front-facing.
     pub front: bool,
     /// By location.
-    pub slots: [[u32; COMPONENTS]; LOCATIONS],
+    pub slots: &'a [[u32; COMPONENTS]; LOCATIONS],
 }

@@ -14,7 +14,7 @@ type Slots = [[u32; COMPONENTS]; LOCATIONS];
 fn write_locations(
     canvas: &mut Canvas,
     rules: &SampleRules,
-    f: &Fragment,
+    f: &Fragment<'_>,
     slots: &Slots,
     sample: u8,
 )
@@ -35,7 +35,13 @@ fn write_locations(
 }
 
 #[tactic(auto, unfolding(crate::specs::SampleRules::sample_by))]
-fn write_sample(canvas: &mut Canvas, rules: &SampleRules, f: &Fragment, slots: &Slots, sample: u8)
+fn write_sample(
+    canvas: &mut Canvas,
+    rules: &SampleRules,
+    f: &Fragment<'_>,
+    slots: &Slots,
+    sample: u8,
+)
     requires within { IsPlace f.now }
     requires rules { AreRules rules.now }
     ensures { canvas.new ≡ sample_by rules.now (told f.now) slots.now canvas.old sample }
@@ -46,7 +52,7 @@ fn write_sample(canvas: &mut Canvas, rules: &SampleRules, f: &Fragment, slots: &
 }
 
 /// Writes the samples of the mask, in order, with the words that the fragment's invocation leaves by location.
-pub fn write_samples(canvas: &mut Canvas, rules: &SampleRules, f: &Fragment, slots: &Slots)
+pub fn write_samples(canvas: &mut Canvas, rules: &SampleRules, f: &Fragment<'_>, slots: &Slots)
     requires within { IsPlace f.now }
     requires rules { AreRules rules.now }
     ensures { canvas.new ≡ samples_by rules.now (told f.now) slots.now canvas.old }

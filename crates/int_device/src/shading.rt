@@ -2,11 +2,11 @@
 ghost use Rattle.std.specs.Prelude.{◌≡◌, ◌<◌, ◌≤◌, ◌+◌, ◌^◌, [], ◌∷◌, length, slice_index, IfOk, if◌then◌else◌};
 ghost use Rattle.state_model.specs.Lawful.{IsFragmentPart, IsOutputPart};
 ghost use Rattle.stage_model.specs.Stage.{ended_of};
-ghost use Rattle.draw_model.specs.Invocation.{fragment_inputs, writes};
+ghost use Rattle.draw_model.specs.Invocation.{writes};
 ghost use Rattle.draw_model.specs.LawfulDraw.{IsSide};
 ghost use Rattle.draw_model.specs.WholeDraw.{fragment_outcome};
 ghost use Rattle.int_device.specs.SampleRules.{AreRules, IsPlace, rules_of, samples_by, told};
-ghost use Rattle.int_device.specs.Draws.{Draws, Shade, IsShading, fragments_at, fragments_in_row, fragments_in_layer, fragments_if_masked, fragments_in_layers, fragment_by, fragments_by, some_mask};
+ghost use Rattle.int_device.specs.Draws.{Draws, Shade, IsShading, IsGiven, given_by, fragments_at, fragments_in_row, fragments_in_layer, fragments_if_masked, fragments_in_layers, fragment_by, fragments_by, some_mask};
 
 use crate::canvas::Canvas;
 use crate::fragment::Fragment;
@@ -15,7 +15,7 @@ use crate::sample_rules::{SampleRules, rules_of};
 use crate::samples::{is_in_mask, write_samples};
 use crate::unit::count_insts;
 use draw_model::Dynamic;
-use limits::MAX_SIDE;
+use limits::{COMPONENTS, LOCATIONS, MAX_SIDE};
 use prerast_lib::{columns_of, covers, rows_of};
 use spv_check::Module;
 use spv_exec::Prepared;
@@ -33,6 +33,8 @@ pub struct Shading<'a> {
     dynamic: &'a Dynamic,
     buffers: &'a Buffers,
     rules: SampleRules,
+    // What the last invocation was given.
+    inputs: Inputs,
 }
 
 impl<'a> Model for Shading<'a> {
@@ -46,7 +48,7 @@ impl<'a> Model for Shading<'a> {
       buffers = s.buffers.now;
     } };
 
-    ghost invariant = { λ s. IsShading s.run s.part s.output s.dynamic.now s.rules };
+    ghost invariant = { λ s. IsShading s.run s.part s.output s.dynamic.now s.rules s.inputs };
 }
 
 impl<'a> Shading<'a> {
@@ -80,22 +82,23 @@ impl<'a> Shading<'a> {
             dynamic,
             buffers,
             rules: rules_of(shader, part, output, dynamic),
+            inputs: first_inputs(dynamic),
         })
     }
 
     // What the invocation of a fragment leaves.
-    fn outcome(&mut self, f: &Fragment) -> Ended
+    fn outcome(&mut self, f: &Fragment<'_>) -> Ended
         ensures is { let s = self.old in
             result ≡ ended_of (fragment_outcome s.stage s.dynamic s.buffers (told f.now)) }
         ensures bound { result.work ≤ 2 ^ 27 }
         ensures same { self.new ≡ self.old }
     {
-        let inputs = inputs_of(self.dynamic, f);
-        self.run.run(&inputs, self.buffers)
+        give(&mut self.inputs, f);
+        self.run.run(&self.inputs, self.buffers)
     }
 
     // One fragment: its invocation, and the samples that it writes.
-    fn shade(&mut self, f: &Fragment, canvas: &mut Canvas) -> u64
+    fn shade(&mut self, f: &Fragment<'_>, canvas: &mut Canvas) -> u64
         requires { IsPlace f.now }
         ensures draws { Draws self.old canvas.old canvas.new result (told f.now ∷ []) }
         ensures bound { result ≤ 2 ^ 27 }
@@ -232,7 +235,7 @@ impl<'a> Shading<'a> {
     }
 }
 
-fn fragment_by(p: &Primitive, layer: u8, y: u32, x: u32) -> Fragment
+fn fragment_by(p: &Primitive, layer: u8, y: u32, x: u32) -> Fragment<'_>
     ensures is { told result ≡ fragment_by p.now layer y x }
     ensures x { result.x ≡ x }
     ensures y { result.y ≡ y }
@@ -243,12 +246,12 @@ fn fragment_by(p: &Primitive, layer: u8, y: u32, x: u32) -> Fragment
         y,
         depth: p.corners[0][2],
         front: p.front,
-        slots: p.slots,
+        slots: &p.slots,
     }
 }
 
 // The samples that a fragment's invocation writes with what it leaves.
-fn write_outcome(canvas: &mut Canvas, rules: &SampleRules, f: &Fragment, ended: &Ended)
+fn write_outcome(canvas: &mut Canvas, rules: &SampleRules, f: &Fragment<'_>, ended: &Ended)
     requires within { IsPlace f.now }
     requires rules { AreRules rules.now }
     ensures { canvas.new ≡ (if writes ended.now.kind
@@ -260,19 +263,29 @@ fn write_outcome(canvas: &mut Canvas, rules: &SampleRules, f: &Fragment, ended: 
     }
 }
 
+// What no fragment has of its own.
 #[tactic(auto, unfolding(draw_model::specs::Invocation::fragment_inputs))]
-fn inputs_of(dynamic: &Dynamic, f: &Fragment) -> Inputs
-    ensures { result ≡ fragment_inputs dynamic.now (told f.now) }
+fn first_inputs(dynamic: &Dynamic) -> Inputs
+    ensures { IsGiven dynamic.now result }
 {
     Inputs {
-        slots: f.slots,
+        slots: [[0; COMPONENTS]; LOCATIONS],
         vertex_index: 0,
         instance_index: 0,
-        frag_coord: [f.x, f.y, f.depth, 0],
-        front: f.front,
+        frag_coord: [0; COMPONENTS],
+        front: false,
         push: dynamic.push,
         uniforms: dynamic.uniforms,
     }
+}
+
+// Gives what is a fragment's own; all else stays.
+fn give(inputs: &mut Inputs, f: &Fragment<'_>)
+    ensures { inputs.new ≡ given_by inputs.old (told f.now) }
+{
+    inputs.slots = *f.slots;
+    inputs.frag_coord = [f.x, f.y, f.depth, 0];
+    inputs.front = f.front;
 }
 
 fn writes(kind: Kind) -> bool

@@ -1,6 +1,7 @@
 //! The samples of one target: which are there, where they stand, and what is read and written.
 ghost use Rattle.std.specs.Prelude.{◌≡◌, ◌<◌, ◌≤◌, ◌+◌, ◌*◌, ◌^◌, length, take, drop, slice_index};
 ghost use Rattle.std.specs.Option.{ForSome};
+ghost use Rattle.draw_model.specs.Pixel.{stored_pixel};
 ghost use Rattle.draw_model.specs.TargetWords.{sample_place, sample_words, with_sample, suits, words_set};
 ghost use Rattle.int_device.specs.SampleRules.{IsLimited, IsPlace, told, four, passes_in, with_depth_in, with_write_in};
 ghost use Rattle.state_model.specs.Lawful.{format_components};
@@ -10,14 +11,14 @@ use crate::fragment::Fragment;
 use draw_model::framebuffer::{DEPTH_FORMAT, Target};
 use fragment_lib::depth_passes;
 use limits::COMPONENTS;
-use output_lib::store_pixel;
+use output_lib::store_component;
 use sqlite_items::Items;
 use state_model::format::FORMAT_R32_UINT;
 use state_model::vulkan::{COMPARE_OP_ALWAYS, LOGIC_OP_SET};
 use state_model::{Attachment, Depth};
 
 // Whether it has this format and sample count, and the fragment's pixel and layer.
-fn suits(target: &Target, format: u8, samples: u8, f: &Fragment) -> bool
+fn suits(target: &Target, format: u8, samples: u8, f: &Fragment<'_>) -> bool
     ensures { result ≡ suits format samples (told f.now) target.now }
 {
     target.format == format
@@ -60,7 +61,7 @@ fn place_after(pixel: u64, samples: u8, sample: u8, size: usize) -> usize
 
 // Where the words of a fragment's sample begin.
 #[tactic(auto, unfolding(draw_model::specs::TargetWords::sample_place))]
-fn place_of(target: &Target, f: &Fragment, sample: u8) -> usize
+fn place_of(target: &Target, f: &Fragment<'_>, sample: u8) -> usize
     requires limited { IsLimited target.now }
     requires within { IsPlace f.now }
     ensures place { result ≡ sample_place target.now f.now.layer f.now.x f.now.y sample }
@@ -116,7 +117,7 @@ fn write_words(words: &mut Items<u32>, place: usize, new: &[u32], size: usize)
 }
 
 #[tactic(auto, unfolding(draw_model::specs::TargetWords::sample_words))]
-fn read_sample(target: &Target, f: &Fragment, sample: u8) -> [u32; COMPONENTS]
+fn read_sample(target: &Target, f: &Fragment<'_>, sample: u8) -> [u32; COMPONENTS]
     requires limited { IsLimited target.now }
     requires within { IsPlace f.now }
     ensures { result ≡ four (sample_words target.now (told f.now) sample) }
@@ -126,7 +127,7 @@ fn read_sample(target: &Target, f: &Fragment, sample: u8) -> [u32; COMPONENTS]
 }
 
 #[tactic(auto, unfolding(draw_model::specs::TargetWords::with_sample))]
-fn store_sample(target: &mut Target, f: &Fragment, sample: u8, new: &[u32])
+fn store_sample(target: &mut Target, f: &Fragment<'_>, sample: u8, new: &[u32])
     requires limited { IsLimited target.old }
     requires within { IsPlace f.now }
     ensures { target.new ≡ with_sample target.old (told f.now) sample new.now }
@@ -136,9 +137,60 @@ fn store_sample(target: &mut Target, f: &Fragment, sample: u8, new: &[u32])
     write_words(&mut target.words, place, new, size);
 }
 
+// Stores so many components, each over the word that stands there, by the logic operation and the write mask.
+fn write_components(
+    words: &mut Items<u32>,
+    place: usize,
+    size: usize,
+    logic: Option<u8>,
+    mask: u8,
+    new: [u32; COMPONENTS],
+)
+    requires bound { place < 2 ^ 40 }
+    requires few { size ≤ COMPONENTS }
+    requires logic { ForSome logic (λ op. op ≤ LOGIC_OP_SET) }
+    ensures { words.new ≡ words_set place (take size (stored_pixel logic mask new
+        (four (take size (drop place words.old))))) words.old }
+{
+    for i in 0..size {
+        let old = word_at(words.as_slice(), place + i);
+        let word = store_component(logic, mask, i, new[i], old);
+        if place + i < words.len() {
+            words.set(place + i, word);
+        }
+    }
+}
+
+// Stores the words of an output in a fragment's sample, by the logic operation and the write mask.
+#[tactic(auto, unfolding(draw_model::specs::TargetWords::sample_words, draw_model::specs::TargetWords::with_sample))]
+fn combine_sample(
+    target: &mut Target,
+    logic: Option<u8>,
+    mask: u8,
+    f: &Fragment<'_>,
+    words: [u32; COMPONENTS],
+    sample: u8,
+)
+    requires limited { IsLimited target.old }
+    requires within { IsPlace f.now }
+    requires logic { ForSome logic (λ op. op ≤ LOGIC_OP_SET) }
+    ensures { target.new ≡ with_sample target.old (told f.now) sample
+        (stored_pixel logic mask words (four (sample_words target.old (told f.now) sample))) }
+{
+    let place = place_of(target, f, sample);
+    let size = size_of(target.format);
+    write_components(&mut target.words, place, size, logic, mask, words);
+}
+
 /// Tests the depth of a fragment's sample and stores it where it passes, if the target is for it; and whether the sample
 /// goes on.
-pub fn test_depth(target: &mut Target, depth: Depth, samples: u8, f: &Fragment, sample: u8) -> bool
+pub fn test_depth(
+    target: &mut Target,
+    depth: Depth,
+    samples: u8,
+    f: &Fragment<'_>,
+    sample: u8,
+) -> bool
     requires limited { IsLimited target.old }
     requires within { IsPlace f.now }
     requires compare { depth.compare ≤ COMPARE_OP_ALWAYS }
@@ -162,7 +214,7 @@ pub fn write_output(
     attachment: Attachment,
     logic: Option<u8>,
     samples: u8,
-    f: &Fragment,
+    f: &Fragment<'_>,
     words: [u32; COMPONENTS],
     sample: u8,
 )
@@ -173,8 +225,6 @@ pub fn write_output(
         ≡ with_write_in attachment logic samples (told f.now) words sample target.old }
 {
     if suits(target, attachment.format, samples, f) {
-        let old = read_sample(target, f, sample);
-        let new = store_pixel(logic, attachment.write_mask, words, old);
-        store_sample(target, f, sample, &new);
+        combine_sample(target, logic, attachment.write_mask, f, words, sample);
     }
 }

@@ -1,9 +1,9 @@
 //! The fragment output library: logic operations and write masks.
 #![tactic(auto)]
 
-ghost use Rattle.std.specs.Prelude.{◌≡◌, ◌≤◌};
+ghost use Rattle.std.specs.Prelude.{◌≡◌, ◌<◌, ◌≤◌, if◌then◌else◌};
 ghost use Rattle.std.specs.Option.{ForSome};
-ghost use Rattle.draw_model.specs.Pixel.{logic_result, stored_pixel, written_component};
+ghost use Rattle.draw_model.specs.Pixel.{has_bit, logic_result, stored_pixel, written_component};
 
 use limits::COMPONENTS;
 pub use state_model::OutputPart;
@@ -67,6 +67,19 @@ fn written_word(op: Option<u8>, s: u32, d: u32) -> u32
     }
 }
 
+/// Component i of a pixel after the write of `s` over `d`, where bit i of `mask` is set (1 R, 2 G, 4 B, 8 A). No `op` is COPY.
+pub fn store_component(op: Option<u8>, mask: u8, i: usize, s: u32, d: u32) -> u32
+    requires op { ForSome op (λ op. op ≤ LOGIC_OP_SET) }
+    requires within { i < COMPONENTS }
+    ensures { result ≡ (if has_bit mask i then written_component op s d else d) }
+{
+    if (mask >> i) % 2 == 1 {
+        written_word(op, s, d)
+    } else {
+        d
+    }
+}
+
 /// The pixel `d` after the write of `s`: component i changes where bit i of `mask` is set (1 R, 2 G, 4 B, 8 A). No `op`
 /// is COPY.
 pub fn store_pixel(
@@ -80,11 +93,7 @@ pub fn store_pixel(
 {
     let mut pixel = [0; COMPONENTS];
     for i in 0..COMPONENTS {
-        pixel[i] = if (mask >> i) % 2 == 1 {
-            written_word(op, s[i], d[i])
-        } else {
-            d[i]
-        };
+        pixel[i] = store_component(op, mask, i, s[i], d[i]);
     }
     pixel
 }

@@ -3,6 +3,7 @@ pub mod ChainWords
 pub mod ComponentLoops
 pub mod ComponentResults
 pub mod CompositeRuns
+mod CopiedWords
 pub mod DefineSteps
 pub mod DefinedValues
 pub mod DefinedWords

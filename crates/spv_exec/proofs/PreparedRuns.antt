@@ -51,21 +51,29 @@ no_slots : (program : Program) → slots_left program (λ _ _. 0) ≡ replicate 
 unfolding slots_left
 no_slots program = ap (λ (f : ℕ → List ℕ). map f (range_with_len 0 LOCATIONS)) (fun_ext (λ location. no_components program (output_with program LOCATION location)))
 
-abbrev nothing : Kind → ℕ → Ended
-nothing kind work = record { kind = kind; position = replicate COMPONENTS 0; slots = replicate LOCATIONS (replicate COMPONENTS 0); work = work }
+made : Kind → List ℕ → List (List ℕ) → ℕ → Ended
+made kind position slots work = record { kind = kind; position = position; slots = slots; work = work }
 
-left_nothing : (program : Program) (kind : Kind) (work : ℕ) → ◌≡◌ {A = Ended} (nothing kind work) (record { kind = kind; position = position_left program (λ _ _. 0); slots = slots_left program (λ _ _. 0); work = work })
-left_nothing program kind work =
-    ap (λ (p : List ℕ). ended kind p (replicate LOCATIONS (replicate COMPONENTS 0)) work) (sym (no_position program)) ∙ ap (λ (s : List (List ℕ)). ended kind (position_left program (λ _ _. 0)) s work) (sym (no_slots program))
-  where
-    ended : Kind → List ℕ → List (List ℕ) → ℕ → Ended
-    ended kind position slots work = record { kind = kind; position = position; slots = slots; work = work }
+-- zeros, which are left where the variables hold zeros
+left_nothing : (program : Program) (e : Ended) → e.position ≡ replicate COMPONENTS 0 → e.slots ≡ replicate LOCATIONS (replicate COMPONENTS 0)
+    → e ≡ made e.kind (position_left program (λ _ _. 0)) (slots_left program (λ _ _. 0)) e.work
+unfolding made
+left_nothing program e position slots =
+    ap (λ (p : List ℕ). made e.kind p e.slots e.work) (position ∙ sym (no_position program)) ∙ ap (λ (s : List (List ℕ)). made e.kind (position_left program (λ _ _. 0)) s e.work) (slots ∙ sym (no_slots program))
 
-pub killed_leaves : (program : Program) (end : End) (held : Memory) → end.kind ≡ Killed → nothing Killed end.work ≡ left_so program end held
-killed_leaves program end held is = left_nothing program Killed end.work ∙ ap (λ (k : Kind). left_so program (record end { kind = k }) held) (sym is)
+-- of an invocation that isn't done nothing is left
+by_kind : (program : Program) (e : Ended) (held : Memory) (kind : Kind) → e.kind ≡ kind
+    → e ≡ made e.kind (position_left program (left_by kind held)) (slots_left program (left_by kind held)) e.work → e ≡ left_so program (record { kind = e.kind; work = e.work }) held
+unfolding made
+by_kind program e held kind is same = same ∙ ap (λ (k : Kind). made e.kind (position_left program (left_by k held)) (slots_left program (left_by k held)) e.work) (sym is)
 
-pub lost_leaves : (program : Program) (end : End) (held : Memory) → end.kind ≡ Lost → nothing Lost end.work ≡ left_so program end held
-lost_leaves program end held is = left_nothing program Lost end.work ∙ ap (λ (k : Kind). left_so program (record end { kind = k }) held) (sym is)
+pub killed_leaves : (program : Program) (e : Ended) (held : Memory) → e.position ≡ replicate COMPONENTS 0 → e.slots ≡ replicate LOCATIONS (replicate COMPONENTS 0) → e.kind ≡ Killed
+    → e ≡ left_so program (record { kind = e.kind; work = e.work }) held
+killed_leaves program e held position slots is = by_kind program e held Killed is (left_nothing program e position slots)
+
+pub lost_leaves : (program : Program) (e : Ended) (held : Memory) → e.position ≡ replicate COMPONENTS 0 → e.slots ≡ replicate LOCATIONS (replicate COMPONENTS 0) → e.kind ≡ Lost
+    → e ≡ left_so program (record { kind = e.kind; work = e.work }) held
+lost_leaves program e held position slots is = by_kind program e held Lost is (left_nothing program e position slots)
 
 -- ---- the start
 

@@ -1,5 +1,5 @@
 //! Where the words of output variables lie in the memory.
-ghost use Rattle.std.specs.Prelude.{◌≡◌, ℕ, ◌+◌, ◌<◌, ◌==◌, ◌&&◌, length, slice_index_or, None};
+ghost use Rattle.std.specs.Prelude.{◌≡◌, ℕ, ◌+◌, ◌<◌, ◌==◌, ◌&&◌, length, replicate, slice_index_or, None};
 ghost use Rattle.spirv_model.specs.Operands.{word_at};
 ghost use Rattle.spirv_model.specs.declared.op.TheConstants.{VARIABLE};
 ghost use Rattle.spirv_model.specs.declared.storage_class.TheConstants.{OUTPUT};
@@ -102,32 +102,36 @@ fn with_slot(
     slots
 }
 
-/// The four components of what an output holds: zeros where its type lacks them, and where there is none.
-pub fn components(memory: &[u32], output: Option<Output>) -> [u32; COMPONENTS]
-    ensures { result ≡ components_at memory.now output }
+/// Puts the four components of what an output holds in the place of zeros; zeros stay where its type lacks them, and where there
+/// is none.
+fn put_components(memory: &[u32], output: Option<Output>, to: &mut [u32; COMPONENTS])
+    requires { to.old ≡ replicate COMPONENTS 0 }
+    ensures { to.new ≡ components_at memory.now output }
 {
-    let mut components = [0; COMPONENTS];
     let Some(output) = output else {
-        return components;
+        return;
     };
     for k in 0..COMPONENTS {
-        components[k] = component(memory, output, k);
+        to[k] = component(memory, output, k);
     }
-    components
 }
 
-/// The components of what the outputs at each location hold.
-pub fn slots(
-    memory: &[u32],
-    outputs: &[Option<Output>; LOCATIONS],
-) -> [[u32; COMPONENTS]; LOCATIONS]
-    ensures { result ≡ slots_at memory.now outputs.now }
+/// Puts the components of what the output that is Position holds in the place of zeros.
+pub fn put_position(memory: &[u32], outputs: &Outputs, to: &mut [u32; COMPONENTS])
+    requires { to.old ≡ replicate COMPONENTS 0 }
+    ensures { to.new ≡ components_at memory.now outputs.now.position }
 {
-    let mut slots = [[0; COMPONENTS]; LOCATIONS];
+    put_components(memory, outputs.position, to);
+}
+
+/// Puts the components of what the outputs at each location hold in the place of zeros.
+pub fn put_slots(memory: &[u32], outputs: &Outputs, to: &mut [[u32; COMPONENTS]; LOCATIONS])
+    requires { to.old ≡ replicate LOCATIONS (replicate COMPONENTS 0) }
+    ensures { to.new ≡ slots_at memory.now outputs.now.slots }
+{
     for location in 0..LOCATIONS {
-        slots[location] = components(memory, outputs[location]);
+        put_components(memory, outputs.slots[location], &mut to[location]);
     }
-    slots
 }
 
 fn component(memory: &[u32], output: Output, k: usize) -> u32

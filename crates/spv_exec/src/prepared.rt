@@ -102,49 +102,29 @@ impl<'m> Prepared<'m> {
             self.incoming.as_mut_slice(),
             memory,
         );
-        ended(&self.variables, end, memory)
+        let mut ended = Ended {
+            kind: end.kind,
+            position: [0; COMPONENTS],
+            slots: [[0; COMPONENTS]; LOCATIONS],
+            work: end.work,
+        };
+        leave(&self.variables, memory, &mut ended);
+        ended
     }
 }
 
-/// What an invocation that ended so leaves: zeros, unless it is done.
-fn ended(variables: &Variables<'_>, end: End, memory: &[u32]) -> Ended
-    requires { length memory.now ≡ memory_place (program_of variables.now.insts) (length variables.now.insts) }
-    ensures { (held : Memory) → ShowsMemory (program_of variables.now.insts) memory.now held
-        → result ≡ left_so (program_of variables.now.insts) end held }
+/// Puts what an invocation leaves in the place of zeros, if it is done.
+fn leave(variables: &Variables<'_>, memory: &[u32], ended: &mut Ended)
+    requires size { length memory.now ≡ memory_place (program_of variables.now.insts) (length variables.now.insts) }
+    requires position { ended.old.position ≡ replicate COMPONENTS 0 }
+    requires slots { ended.old.slots ≡ replicate LOCATIONS (replicate COMPONENTS 0) }
+    ensures { (held : Memory) → ShowsMemory (program_of variables.now.insts) memory.now held → ended.new
+        ≡ left_so (program_of variables.now.insts) (record { kind = ended.old.kind; work = ended.old.work }) held }
 {
-    match end.kind {
-        Kind::Done => {
-            let left = variables.left(memory);
-            let position = left.position;
-            let slots = left.slots;
-            Ended {
-                kind: Kind::Done,
-                position,
-                slots,
-                work: end.work,
-            }
-        }
-        Kind::Killed => nothing(Kind::Killed, end.work),
-        Kind::Lost => nothing(Kind::Lost, end.work),
-    }
-}
-
-/// Zeros.
-fn nothing(kind: Kind, work: u64) -> Ended
-    ensures { result ≡ record {
-      kind = kind;
-      position = replicate COMPONENTS 0;
-      slots = replicate LOCATIONS (replicate COMPONENTS 0);
-      work = work;
-    } }
-{
-    let position = [0; COMPONENTS];
-    let slots = [[0; COMPONENTS]; LOCATIONS];
-    Ended {
-        kind,
-        position,
-        slots,
-        work,
+    match ended.kind {
+        Kind::Done => variables.leave(memory, &mut ended.position, &mut ended.slots),
+        Kind::Killed => {}
+        Kind::Lost => {}
     }
 }
 

@@ -1,4 +1,4 @@
-ghost use Rattle.std.specs.Prelude.{◌≡◌, ℕ, ◌+◌, ◌<◌, ◌≤◌, ◌==◌, ◌^◌, ◌++◌, if◌then◌else◌, length, slice_index, IfOk, OnOk};
+ghost use Rattle.std.specs.Prelude.{◌≡◌, ℕ, ◌+◌, ◌<◌, ◌≤◌, ◌==◌, ◌^◌, ◌++◌, if◌then◌else◌, length, replicate, slice_index, IfOk, OnOk};
 ghost use Rattle.spirv_model.specs.declared.module.Words.{Words};
 ghost use Rattle.stage_model.specs.Program.{program_of};
 ghost use Rattle.stage_model.specs.Start.{Memory, first_memory};
@@ -10,7 +10,7 @@ ghost use Rattle.spv_exec.specs.Variables.{AddsWords, AreFills, IsVariables, fil
 use crate::block_offsets::block_offsets;
 use crate::module_frame::ModuleFrame;
 use crate::origins::{Origin, index, origin_of, word};
-use crate::outputs::{Outputs, components, outputs_of, slots};
+use crate::outputs::{Outputs, outputs_of, put_position, put_slots};
 use limits::{COMPONENTS, LOCATIONS};
 use spirv_model::op;
 use spv_check::Module;
@@ -35,13 +35,6 @@ pub struct Variables<'m> {
     module: &'m Module,
     fills: Vec<Fill>,
     outputs: Outputs,
-}
-
-/// The words that an invocation leaves in its outputs.
-#[derive(Debug, Drop)]
-pub struct Left {
-    pub position: [u32; COMPONENTS],
-    pub slots: [[u32; COMPONENTS]; LOCATIONS],
 }
 
 impl<'m> Model for Variables<'m> {
@@ -74,18 +67,24 @@ impl<'m> Variables<'m> {
         fill_in(self.fills.as_slice(), inputs, buffers, memory);
     }
 
-    /// What the outputs hold: zeros where there is no such output, and in the components that it lacks.
-    pub fn left(&self, memory: &[u32]) -> Left
-        requires { length memory.now ≡ memory_place (program_of self.now.insts) (length self.now.insts) }
+    /// Puts what the outputs hold in the place of zeros, which stay where there is no such output, and in the components that
+    /// it lacks.
+    pub fn leave(
+        &self,
+        memory: &[u32],
+        position: &mut [u32; COMPONENTS],
+        slots: &mut [[u32; COMPONENTS]; LOCATIONS],
+    )
+        requires size { length memory.now ≡ memory_place (program_of self.now.insts) (length self.now.insts) }
+        requires no_position { position.old ≡ replicate COMPONENTS 0 }
+        requires no_slots { slots.old ≡ replicate LOCATIONS (replicate COMPONENTS 0) }
         ensures position { (held : Memory) → ShowsMemory (program_of self.now.insts) memory.now held
-            → result.position ≡ position_left (program_of self.now.insts) held }
+            → position.new ≡ position_left (program_of self.now.insts) held }
         ensures slots { (held : Memory) → ShowsMemory (program_of self.now.insts) memory.now held
-            → result.slots ≡ slots_left (program_of self.now.insts) held }
+            → slots.new ≡ slots_left (program_of self.now.insts) held }
     {
-        Left {
-            position: components(memory, self.outputs.position),
-            slots: slots(memory, &self.outputs.slots),
-        }
+        put_position(memory, &self.outputs, position);
+        put_slots(memory, &self.outputs, slots);
     }
 }
 

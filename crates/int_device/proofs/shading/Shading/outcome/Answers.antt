@@ -1,4 +1,4 @@
-use Rattle.std.proofs.Common.{◌≡◌, ◌≤◌, ◌^◌, ap, sym, subst, ℕ}
+use Rattle.std.proofs.Common.{◌≡◌, ◌≤◌, ◌^◌, ap, sym, subst, ◌∙◌, ℕ}
 use Rattle.std.specs.Prelude.{Some}
 use Rattle.std.specs.Option.{option_map}
 use Rattle.stage_model.specs.declared.inputs.Inputs.{Inputs}
@@ -15,7 +15,7 @@ returns-clause-is c =
     rw (← c.self.view_is)
     (fragment_told s.run s.part s.output s.dynamic.now s.buffers.now (told c.args.f.now) c.run.result c.self.invariant.entries
     (subst (λ (inputs : Inputs). option_map ended_of (stage s.run.words.insts (record { entries = s.run.entries; inputs = inputs; buffers = s.buffers.now })) ≡ Some c.run.result)
-    c.inputs_of-inputs.ensures c.run.ensures.outcome))
+    (c.give.ensures ∙ c.self.invariant.given (told c.args.f.now)) c.run.ensures.outcome))
 
 pub returns-clause-bound : goal.returns-clause-bound
 returns-clause-bound c =
@@ -23,5 +23,5 @@ returns-clause-bound c =
     let of : Shade = record { stage = record { insts = s.run.words.insts; part = s.part; output = s.output }; dynamic = s.dynamic.now; buffers = s.buffers.now } in
     let is = fragment_told s.run s.part s.output s.dynamic.now s.buffers.now (told c.args.f.now) c.run.result c.self.invariant.entries
     (subst (λ (inputs : Inputs). option_map ended_of (stage s.run.words.insts (record { entries = s.run.entries; inputs = inputs; buffers = s.buffers.now })) ≡ Some c.run.result)
-    c.inputs_of-inputs.ensures c.run.ensures.outcome) in
+    (c.give.ensures ∙ c.self.invariant.given (told c.args.f.now)) c.run.ensures.outcome) in
     subst (λ (n : ℕ). n ≤ 2 ^ 27) (sym (ap (λ (e : Ended). e.work) is)) (fragment_few of (told c.args.f.now) c.self.invariant.few)

@@ -29,8 +29,8 @@ returns-clause-outcome c =
     (ap (λ (l : List ℕ). length l) c.as_mut_slice.ensures.value ∙ p.incoming_size)
     (subst (λ (w : Words). ShowsMemory (program_of w.insts) c.fill.new.memory (first_memory (program_of w.insts) c.args.inputs.now c.args.buffers.now)) p.same c.fill.ensures) in
     let so = c.walk-end.ensures (start_at (program_of words.insts) given c.self.inside.first) e.kind e.state stands e.ends in
-    let left : c.ended.result ≡ left_so (program_of words.insts) c.walk-end.result e.state.memory =
-    c.ended.ensures e.state.memory (subst (λ (w : Words). ShowsMemory (program_of w.insts) c.walk-end.new.memory e.state.memory) (sym p.same) so.holds)
+    let left : c.leave.new.ended ≡ left_so (program_of words.insts) c.walk-end.result e.state.memory =
+    c.leave.ensures e.state.memory (subst (λ (w : Words). ShowsMemory (program_of w.insts) c.walk-end.new.memory e.state.memory) (sym p.same) so.holds)
     ∙ ap (λ (w : Words). left_so (program_of w.insts) c.walk-end.result e.state.memory) p.same in
     ap (λ (q : PreparedFor). option_map ended_of (stage q.words.insts (record { entries = q.entries; inputs = c.args.inputs.now; buffers = c.args.buffers.now }))) (sym c.self.view_is)
-    ∙ outcome_is words given c.self.inside.first e c.walk-end.result c.walk-end.new.memory c.ended.result so left
+    ∙ outcome_is words given c.self.inside.first e c.walk-end.result c.walk-end.new.memory c.leave.new.ended so left
