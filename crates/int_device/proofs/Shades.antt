@@ -31,7 +31,8 @@ use Rattle.draw_model.specs.WholeDraw.{layers_of, fragment_outcome, after_outcom
 use Rattle.spv_exec.specs.PreparedFor.{PreparedFor}
 use Rattle.int_device.specs.SampleRules.{AreRules, bound_depth, rules_of, samples_by}
 use Rattle.int_device.specs.declared.primitive.Primitive.{Primitive}
-use Rattle.int_device.specs.Draws.{Shade, Draws, fragment_by, fragments_at, fragments_in_row, fragments_in_layer, fragments_if_masked, fragments_in_layers, some_mask, fragments_by}
+use Rattle.int_device.specs.declared.sample_rules.SampleRules.{SampleRules}
+use Rattle.int_device.specs.Draws.{Shade, Draws, IsShading, given_by, fragment_by, fragments_at, fragments_in_row, fragments_in_layer, fragments_if_masked, fragments_in_layers, some_mask, fragments_by}
 use Rattle.int_device.proofs.DrawRules.{samples_law}
 use Rattle.int_device.proofs.Ranges.{range_from_more, filtered_more}
 
@@ -97,6 +98,21 @@ fragment_told for part output dynamic buffers f e same h =
 pub fragment_few : (s : Shade) (f : Fragment) → length s.stage.insts ≤ MODULE_WORDS → (fragment_outcome s.stage s.dynamic s.buffers f).work ≤ 2 ^ 27
 unfolding fragment_outcome
 fragment_few s f few = invoked_few s.stage.insts s.stage.part.entries s.buffers (fragment_inputs s.dynamic f) few
+
+-- one that is ready stays so where a fragment's own is given
+pub still_ready : (for after : PreparedFor) (part : FragmentPart) (output : OutputPart) (dynamic : Dynamic) (rules : SampleRules) (inputs now : Inputs) (f : Fragment) → after ≡ for →
+    now ≡ given_by inputs f → IsShading for part output dynamic rules inputs → IsShading after part output dynamic rules now
+still_ready for after part output dynamic rules inputs now f same own h =
+    subst (λ (p : PreparedFor). IsShading p part output dynamic rules now) (sym same)
+    (record {
+      entries = h.entries;
+      few = h.few;
+      ruled = h.ruled;
+      limited = h.limited;
+      scissor_x = h.scissor_x;
+      scissor_y = h.scissor_y;
+      given = λ g. ap (λ (i : Inputs). given_by i g) own ∙ h.given g;
+    })
 
 outcome_by : (s : Shade) (before : Targets) (f : Fragment) (e : Ended) (o : Outcome) (w : Bool) → e ≡ ended_of o → writes e.kind ≡ w →
     cond w (samples_by (rules_of s.stage s.dynamic) f e.slots before) before ≡ after_outcome s.stage s.dynamic f before o

@@ -14,7 +14,7 @@ loop-i-preserved c =
     let h : c.loop-i.i < length pixel = stored_length a.logic a.mask a.new (four (take a.size (drop a.place a.words.now))) c.loop-i.i (omega arith) in
     let word : c.store_component-word.result ≡ slice_index pixel c.loop-i.i =
     component_stored a.logic a.mask a.new a.words.now c.loop-i.words a.place a.size c.loop-i.i c.word_at-old.result c.store_component-word.result (omega arith) (omega arith)
-    c.loop-i.invariant c.word_at-old.ensures c.store_component-word.ensures in
+    c.loop-i.invariant (c.word_at-old.ensures ∙ ap (λ (ws : List ℕ). slice_index ws (a.place + c.loop-i.i)) c.as_slice.ensures) c.store_component-word.ensures in
     elim c.if-place-i.branch [
       | then-place-i w ↦
           w.words-is ∙ w.set.ensures

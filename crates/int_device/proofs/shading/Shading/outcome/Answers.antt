@@ -6,7 +6,7 @@ use Rattle.stage_model.specs.declared.outcome.Ended.{Ended}
 use Rattle.stage_model.specs.Stage.{stage, ended_of}
 use Rattle.int_device.specs.SampleRules.{told}
 use Rattle.int_device.specs.Draws.{Shade}
-use Rattle.int_device.proofs.Shades.{fragment_told, fragment_few}
+use Rattle.int_device.proofs.Shades.{fragment_told, fragment_few, still_ready}
 use Rattle.int_device.proofs.shading.Shading.outcome.Goals as goal
 
 pub returns-clause-is : goal.returns-clause-is
@@ -25,3 +25,8 @@ returns-clause-bound c =
     (subst (λ (inputs : Inputs). option_map ended_of (stage s.run.words.insts (record { entries = s.run.entries; inputs = inputs; buffers = s.buffers.now })) ≡ Some c.run.result)
     (c.give.ensures ∙ c.self.invariant.given (told c.args.f.now)) c.run.ensures.outcome) in
     subst (λ (n : ℕ). n ≤ 2 ^ 27) (sym (ap (λ (e : Ended). e.work) is)) (fragment_few of (told c.args.f.now) c.self.invariant.few)
+
+pub invariant_of-self : goal.invariant_of-self
+invariant_of-self c =
+    let s = c.self.inside in
+    still_ready s.run c.run.new.self s.part s.output s.dynamic.now s.rules s.inputs c.give.new.inputs (told c.args.f.now) c.run.ensures.same c.give.ensures c.self.invariant
