@@ -56,6 +56,21 @@ const FLAT_INPUT: [(u16, &[u32]); 4] = [
 
 const STORE_TO_INPUT: [(u16, &[u32]); 1] = [(op::STORE, &[13, 11])];
 
+/// A structure of one integer among the push constants, and a pointer type to its member.
+const PUSHED: [(u16, &[u32]); 6] = [
+    (op::DECORATE, &[12, 2]),
+    (op::MEMBER_DECORATE, &[12, 0, 35, 0]),
+    (op::TYPE_STRUCT, &[12, 3]),
+    (op::TYPE_POINTER, &[13, 9, 12]),
+    (op::VARIABLE, &[13, 14, 9]),
+    (op::TYPE_POINTER, &[15, 9, 3]),
+];
+
+const STORE_TO_PUSHED: [(u16, &[u32]); 2] = [
+    (op::ACCESS_CHAIN, &[15, 34, 14, 11]),
+    (op::STORE, &[34, 11]),
+];
+
 const SECOND_OUTPUT: [(u16, &[u32]); 2] = [
     (op::DECORATE, &[13, 30, 0]),
     (op::VARIABLE, &[4, 13, 3]),
@@ -83,13 +98,14 @@ fn bad_ids_are_refused(rt: HostRuntime) -> Result<(), Fail> {
 
 #[test]
 fn bad_uses_and_interfaces_are_refused(rt: HostRuntime) -> Result<(), Fail> {
-    let cases: [(Listing, Listing, CheckFault); 7] = [
+    let cases: [(Listing, Listing, CheckFault); 8] = [
         (&[], &SUM_OF_ITSELF, CheckFault::NotVisible(34)),
         (&TRUTH_TYPE, &TWO_FAULTS, CheckFault::NotVisible(34)),
         (&TRUTH_TYPE, &SUM_AS_TRUTH, CheckFault::OperandType(14)),
         (&SECOND_ENTRY, &[], CheckFault::EntryCount(2)),
         (&SMOOTH_INPUT, &[], CheckFault::NotFlat(2)),
         (&FLAT_INPUT, &STORE_TO_INPUT, CheckFault::WrongStorage(17)),
+        (&PUSHED, &STORE_TO_PUSHED, CheckFault::WrongStorage(20)),
         (&SECOND_OUTPUT, &[], CheckFault::LocationTwice(0)),
     ];
     for (types, block, fault) in cases {

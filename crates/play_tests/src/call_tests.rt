@@ -15,7 +15,10 @@ use std::thread::Threads;
 
 /// One point at (x, x) in a colour, on a target.
 fn scene(alloc: Global, x: &str, colour: &str, target: &str) -> Result<String, AllocError> {
-    let modules = [Module(VERTEX, x, VERTEX_END), Module(FRAGMENT, colour, FRAGMENT_END)];
+    let modules = [
+        Module(VERTEX, x, VERTEX_END),
+        Module(FRAGMENT, colour, FRAGMENT_END),
+    ];
     trace(alloc, modules, target)
 }
 

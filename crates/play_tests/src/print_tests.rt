@@ -1,6 +1,6 @@
 //! The texts of traces, and of the lines on standard error.
 use crate::row_tests::prints;
-use crate::samples::{DIVIDES, PLACED};
+use crate::samples::{DIVIDES, PLACED, READS};
 use body_model::TreeFault;
 use check_model::CheckFault;
 use draw_model::Targets;
@@ -81,6 +81,8 @@ fn modules_are_told_with_their_interfaces(rt: HostRuntime) -> Result<(), Fail> {
     let call = ("check", "gplt 1\n");
     let text = "code 0 vertex 1 0 0 70\ncode 1 fragment 0 1 1 69\n";
     assert!(rt; prints(&rt, rt.alloc(), call, [PLACED, DIVIDES], "", text)?);
+    let text = "code 0 vertex 1 0 0 70\ncode 1 fragment 1 1 0 100\n";
+    assert!(rt; prints(&rt, rt.alloc(), call, [PLACED, READS], "", text)?);
     Ok(())
 }
 

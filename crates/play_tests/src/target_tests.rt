@@ -33,13 +33,26 @@ fn draws_each_pixel_on_a_shared_edge_once_and_no_left_over_vertex(
 
 #[test]
 fn writes_a_sample_of_the_mask_whose_depth_is_less_once(rt: HostRuntime) -> Result<(), Fail> {
-    let lines = "layout 0 0 - - - -\ndata 00000080 00000080 00000004 00000000\nvertex 1 points \
-         v:4 - - - 0:0:s4:0\nprerast 1 0 0 0 0 0 cw\nfragment 1 1 0 0 1:1 2:2\noutput 1 0 2:2 6 \
-         u2:1 - - -\npipe 0 1 2 3\ntarget 0 u2 1 1 1 2 00000008\ntarget 0 z 1 1 1 2 00000005\n\
+    let front = "layout 0 0 - - - -\ndata 00000080 00000080 00000004 00000000\nvertex 1 points \
+         v:4 - - - 0:0:s4:0\nprerast 1 0 0 0 0 0 cw\nfragment 1 1 0 0 1:1 2:2\n";
+    let back = "pipe 0 1 2 3\ntarget 0 u2 1 1 1 2 00000008\ntarget 0 z 1 1 1 2 00000005\n\
          vbuf 0 0 0\nbind 0 0 - - - 1\ndraw 0 0 0 1 0 1\ndraw 0 0 0 1 0 1\n";
-    let text = "target 0 u2 1 1 1 2\n00000008,00000008/00000022,00000008\ntarget 1 z 1 1 1 2\n\
-         00000005/00000004\n";
-    assert!(rt; prints(&rt, rt.alloc(), PLAY, [PLACED, PLAIN], lines, text)?);
+    for (output, text) in [
+        (
+            "output 1 0 2:2 6 u2:1 - - -\n",
+            "target 0 u2 1 1 1 2\n00000008,00000008/00000022,00000008\ntarget 1 z 1 1 1 2\n\
+             00000005/00000004\n",
+        ),
+        (
+            "output 1 0 2:2 10 u2:2 - - -\n",
+            "target 0 u2 1 1 1 2\n00000008,00000008/00000008,fffffff7\ntarget 1 z 1 1 1 2\n\
+             00000005/00000004\n",
+        ),
+    ] {
+        let lines = format!(in rt.alloc(); "{front}{output}{back}")?;
+        let modules = [PLACED, PLAIN];
+        assert!(rt; prints(&rt, rt.alloc(), PLAY, modules, lines.as_str(), text)?);
+    }
     Ok(())
 }
 
