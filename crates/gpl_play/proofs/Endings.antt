@@ -1,5 +1,5 @@
 -- How the end of a call keeps its promises, whatever its input and its text are.
-use Rattle.std.proofs.Common.{◌≡◌, ℕ, List, refl, ◌∙◌, subst, sym, inl, inr, Option, None, Some}
+use Rattle.std.proofs.Common.{◌≡◌, ℕ, List, refl, subst, sym, inr, Option, None, Some}
 use Rattle.std.specs.Prelude.{IfSome, Err}
 use Rattle.std.specs.Io.KnownBytes.{Appends}
 use Rattle.gpl_play.specs.declared.status.TheConstants.{REFUSED, NO_MEMORY}

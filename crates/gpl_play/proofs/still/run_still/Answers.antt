@@ -29,8 +29,8 @@ returns-in-Ok-text_of-clause-refuses g c = λ form calm.
     not_refused (λ bytes. IsTraceOf bytes c.in-Ok.trace) HasTraceFault (g.S.Source.left c.args.source.now) c.ended-in-Ok-text_of.result.status
     (λ bytes fault is has. trace_or_fault bytes c.in-Ok.trace fault is has) c.in-Ok.ensures.trace.all
 
-pub returns-in-Err-clause-complete : goal.returns-in-Err-clause-complete
-returns-in-Err-clause-complete g c = λ form calm quiet.
+pub returns-clause-complete : goal.returns-clause-complete
+returns-clause-complete g c = λ form calm quiet.
     stopped_complete {A = Trace} HasTraceFault (λ bytes. (trace : Trace) × IsTraceOf bytes trace) (g.S.Source.left c.args.source.now)
     (g.S.Source.left c.take_trace.new.source) c.in-Err.stop c.stopped.result.status
     (Rose (g.S.Source.faults c.args.source.now) (g.S.Source.faults c.take_trace.new.source))

@@ -1,4 +1,4 @@
-use Rattle.std.proofs.Common.{sym, subst, ap, Vec, Global, ℕ}
+use Rattle.std.proofs.Common.{sym, subst, Vec, Global, ℕ}
 use Rattle.std.specs.Prelude.{Err}
 use Rattle.listing_model.specs.declared.fault.TextFault.{TextFault}
 use Rattle.gpl_play.specs.declared.take.Stop.{Stop}
