@@ -1,4 +1,4 @@
-//! The yardstick of main.rt.txt: the same draws by plain loops, which call the interpreter of bench/exec.
+//! The yardstick of the draws: the same ones by plain loops, which call the interpreter of bench/exec.
 
 use std::fs;
 use std::time::Instant;
@@ -160,17 +160,17 @@ impl Draw<'_> {
     }
 }
 
-/// A round of the scene's draws, each on fresh targets.
+/// A round of the scene's draws, one after the other on the same targets.
 fn round(scene: &Scene, vertex: &Module, fragment: &Module) -> Counts {
     let mut counts = Counts::default();
     let mut chance = 1u64;
     let size = (scene.side * scene.side) as usize * scene.samples;
+    let mut targets = Targets { colour: vec![0; size], depth: vec![i32::MAX as u32; size] };
     for number in 0..scene.draws {
         chance = chance.wrapping_mul(6_364_136_223_846_793_005).wrapping_add(1_442_695_040_888_963_407);
         let place = chance >> 33;
         let free = MAX_SIDE - scene.scissor;
         let (x, y) = (((place / 8 % 32) as u32).min(free), ((place / 256 % 32) as u32).min(free));
-        let mut targets = Targets { colour: vec![0; size], depth: vec![i32::MAX as u32; size] };
         let start = Instant::now();
         let mut draw = Draw {
             scene,
@@ -184,8 +184,8 @@ fn round(scene: &Scene, vertex: &Module, fragment: &Module) -> Counts {
         counts.nanos += start.elapsed().as_nanos();
         counts.vertices += u64::from(scene.vertices);
         counts.pixels += draw.pixels;
-        counts.sum = targets.colour.iter().fold(counts.sum, |sum, word| sum.wrapping_mul(31).wrapping_add(u64::from(*word)));
     }
+    counts.sum = targets.colour.iter().fold(0, |sum: u64, word| sum.wrapping_mul(31).wrapping_add(u64::from(*word)));
     counts
 }
 
@@ -193,8 +193,7 @@ fn time_scene(scene: &Scene) {
     let (vertex, fragment) = (read(&words("vertex")), read(&words("fragment")));
     let best = (0..ROUNDS).map(|_| round(scene, &vertex, &fragment)).min_by_key(|counts| counts.nanos).unwrap_or_default();
     let Counts { nanos, vertices, pixels, sum } = best;
-    println!("{}, {vertices} vertices\t{nanos}\t{vertices}\t{sum}", scene.name);
-    println!("{}, {pixels} pixels\t{nanos}\t{pixels}\t{sum}", scene.name);
+    println!("{}\t{nanos}\t{vertices}\t{pixels}\t{sum}", scene.name);
 }
 
 fn words(name: &str) -> Vec<u32> {
@@ -210,11 +209,11 @@ fn main() {
         mask: 1,
         compare: Some(3),
         scissor: 32,
-        corners: words("small"),
+        corners: words("triangles"),
         vertices: 3,
         draws: 4_096,
     };
-    let large = Scene { name: "samples", side: 256, samples: 4, mask: 15, scissor: 256, corners: words("large"), draws: 1, ..small };
+    let large = Scene { name: "samples", side: 256, samples: 4, mask: 15, scissor: 256, corners: words("samples"), draws: 12, ..small };
     let points = Scene {
         name: "points",
         points: true,
@@ -223,7 +222,7 @@ fn main() {
         scissor: 256,
         corners: words("points"),
         vertices: 16_384,
-        draws: 1,
+        draws: 48,
         ..small
     };
     for scene in [&small, &large, &points] {
