@@ -81,7 +81,7 @@ fn modules_are_told_with_their_interfaces(rt: HostRuntime) -> Result<(), Fail> {
     let call = ("check", "gplt 1\n");
     let text = "code 0 vertex 1 0 0 70\ncode 1 fragment 0 1 1 69\n";
     assert!(rt; prints(&rt, rt.alloc(), call, [PLACED, DIVIDES], "", text)?);
-    let text = "code 0 vertex 1 0 0 70\ncode 1 fragment 1 1 0 100\n";
+    let text = "code 0 vertex 1 0 0 70\ncode 1 fragment 1 1 0 87\n";
     assert!(rt; prints(&rt, rt.alloc(), call, [PLACED, READS], "", text)?);
     Ok(())
 }
