@@ -1,5 +1,6 @@
 pub mod AlikeStates
 mod Worked
+pub mod ChangedPlaces
 pub mod Composing
 pub mod ConstantOperands
 pub mod ConstantsFit
