@@ -1,6 +1,11 @@
 pub mod AlikeStates
+pub mod BehindLevel
 mod Worked
+pub mod ChangedDefinitions
+pub mod ChangedMeanings
 pub mod ChangedPlaces
+pub mod ChangedPrograms
+pub mod ChangedVariables
 pub mod Composing
 pub mod ConstantOperands
 pub mod ConstantsFit
@@ -20,11 +25,17 @@ pub mod FoldedRules
 pub mod FoldedRuns
 pub mod FoldedWords
 pub mod FoldedWritten
+pub mod FunctionKnown
 pub mod GivenResults
 pub mod KnownResults
 pub mod KnownRuns
 pub mod LaterIntervals
+pub mod LevelFinds
 pub mod MovedUp
+pub mod NewConstants
+pub mod Pieces
+pub mod Planned
+pub mod RenamedWords
 pub mod SameEffects
 pub mod SameFunction
 pub mod SameStarts
