@@ -134,7 +134,7 @@ setting_constant None is = cc
 setting_constant (Some class.Setting) is = cc
 setting_constant (Some other) is = refl
 
-setting_fails : FailsInFunction is_setting_class
+pub setting_fails : FailsInFunction is_setting_class
 unfolding class_of entry_of
 setting_fails = record { label = refl; phi = refl; variable = refl; selection_merge = refl; loop_merge = refl; function = refl; function_end = refl; plain = setting_plain; terminator = setting_terminator }
 

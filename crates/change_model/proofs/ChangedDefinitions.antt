@@ -127,7 +127,7 @@ some_same a b is = cc
 pub old_defined : (g : Planned) (place id : ℕ) → place < length g.words.insts → result (inst_at g.words.insts place) ≡ Some id → definition g.words.insts id ≡ Some place
 old_defined g place id within is = defined_at g.words.insts place id within is (keeps_rules g.words g.valid.sound place within).once
 
-one_place : (g : Planned) (a b id : ℕ) → a < length (changed g.plan g.words.insts) → b < length (changed g.plan g.words.insts)
+pub one_place : (g : Planned) (a b id : ℕ) → a < length (changed g.plan g.words.insts) → b < length (changed g.plan g.words.insts)
     → result (inst_at (changed g.plan g.words.insts) a) ≡ Some id → result (inst_at (changed g.plan g.words.insts) b) ≡ Some id → a ≡ b
 one_place g a b id within also is so =
     let c = comes_from g a within in

@@ -24,7 +24,7 @@ use Rattle.typed_model.proofs.SilentSteps.{given_id}
 use Rattle.typed_model.proofs.TypedSteps.{gives_at}
 use Rattle.typed_model.proofs.ValidTypes.{defined_within}
 use Rattle.change_model.specs.Folding.{function_at}
-use Rattle.change_model.specs.Plans.{written_at, constant_at, changed}
+use Rattle.change_model.specs.Plans.{kept_at, written_at, constant_at, changed}
 use Rattle.change_model.specs.PlanRules.{is_constant_fate}
 use Rattle.change_model.specs.Programs.{plainly}
 use Rattle.change_model.proofs.BehindLevel.{end_op}

@@ -2,10 +2,16 @@ pub mod AlikeStates
 pub mod BehindLevel
 mod Worked
 pub mod ChangedDefinitions
+pub mod ChangedEntry
+pub mod ChangedInterface
+pub mod ChangedLabels
 pub mod ChangedMeanings
 pub mod ChangedPlaces
 pub mod ChangedPrograms
+pub mod ChangedShapes
 pub mod ChangedVariables
+pub mod ChangedWords
+pub mod ChangedWritable
 pub mod Composing
 pub mod ConstantOperands
 pub mod ConstantsFit
@@ -27,6 +33,7 @@ pub mod FoldedWords
 pub mod FoldedWritten
 pub mod FunctionKnown
 pub mod GivenResults
+pub mod KindsByLength
 pub mod KnownResults
 pub mod KnownRuns
 pub mod LaterIntervals

@@ -207,6 +207,11 @@ pub record IsResolved (plan : Plan) (insts : List Inst) (intervals : List Interv
   pub pair : Incoming
   pub is_phi : (inst_at insts place).op ≡ op.PHI
   pub only : pairs_in (predecessors_left plan insts (block_at insts place)) (incoming (inst_at insts place)) ≡ pair ∷ []
+  -- the value is defined before the phi: else a phi could stand for itself, and an operation on it fold to anything, in the header of a loop
+  -- that no block before it branches to
+  pub origin : ℕ
+  pub given : definition insts pair.value ≡ Some origin
+  pub earlier : origin < place
   pub stands : plan.name (word_at 1 (inst_at insts place)) ≡ plan.name pair.value
   pub at : ℕ
   pub defined : definition insts (plan.name pair.value) ≡ Some at
