@@ -1,14 +1,17 @@
 pub mod AlikeStates
 pub mod BehindLevel
 mod Worked
+pub mod ChangedBounds
 pub mod ChangedDefinitions
 pub mod ChangedEntry
+pub mod ChangedIds
 pub mod ChangedInterface
 pub mod ChangedLabels
 pub mod ChangedMeanings
 pub mod ChangedPlaces
 pub mod ChangedPrograms
 pub mod ChangedShapes
+pub mod ChangedTypes
 pub mod ChangedVariables
 pub mod ChangedWords
 pub mod ChangedWritable
@@ -43,6 +46,7 @@ pub mod NewConstants
 pub mod Pieces
 pub mod Planned
 pub mod RenamedWords
+pub mod ResultsAmongIds
 pub mod SameEffects
 pub mod SameFunction
 pub mod SameStarts
