@@ -29,7 +29,7 @@ use Rattle.change_model.proofs.ChangedPlaces.{function_within}
 use Rattle.change_model.proofs.ConstantsSound.{keeps_all}
 use Rattle.change_model.proofs.KindsByLength.{same_kinds, renamed_long}
 use Rattle.change_model.proofs.NewConstants.{IsPlainConstant}
-use Rattle.change_model.proofs.Planned.{Planned, IsWritten, keeps, goes, picks, IsNewConstant, folds, nulls, inside, fits_there}
+use Rattle.change_model.proofs.Planned.{Planned, inside, fits_there}
 use Rattle.change_model.proofs.ResultsAmongIds.{true_of_result}
 use Rattle.change_model.proofs.Settlings.{op_is}
 

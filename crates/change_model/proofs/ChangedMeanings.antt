@@ -43,7 +43,7 @@ use Rattle.change_model.proofs.Settlings.{op_is}
 
 -- ---- the module's level
 
-take_less : (k n : ℕ) (insts : List Inst) → k ≤ n → take k (take n insts) ≡ take k insts
+pub take_less : (k n : ℕ) (insts : List Inst) → k ≤ n → take k (take n insts) ≡ take k insts
 take_less zero n insts least = refl
 take_less (suc k) zero insts least = absurd (omega (arith, least))
 take_less (suc k) (suc n) [] least = refl

@@ -52,7 +52,7 @@ level_defined_before g id q at low =
     old_defined g q id (omega (arith, low, most)) (ap result (sym (level_inst g q low)) ∙ given_id id (result (inst_at (changed g.plan g.words.insts) q)) (gives_at (changed g.plan g.words.insts) id q at))
 
 pub later_changed : (g : Planned) (k : ℕ) → k < length (changed g.plan g.words.insts) → has_later_type (changed g.plan g.words.insts) k ≡ false
-unfolding has_later_type
+unfolding has_later_type breaks_types bad_type
 later_changed g k within = by_type (result_type (inst_at list k)) refl
   where
     insts : List Inst
@@ -68,9 +68,9 @@ later_changed g k within = by_type (result_type (inst_at list k)) refl
     at_level type q uses at low less =
         let most = function_within insts in
         let old = (either (breaks_types (known_before insts k) (inst_at insts k)) (is_later_type insts k (result_type (inst_at insts k))) (keeps_all g.words g.valid.sound k (omega (arith, less, low, most))).types).1 in
-        let use : result_type (inst_at insts k) ≡ Some type = ap result_type (sym (level_inst g k (omega (arith, less, low)))) ∙ uses in
+        let also : result_type (inst_at insts k) ≡ Some type = ap result_type (sym (level_inst g k (omega (arith, less, low)))) ∙ uses in
         let judged : (nat_lt k q && is_type (inst_at insts q).op) ≡ false =
-        sym (ap (is_type_after insts k) (level_defined_before g type q at low)) ∙ sym (ap (is_later_type insts k) use) ∙ old in
+        sym (ap (is_type_after insts k) (level_defined_before g type q at low)) ∙ sym (ap (is_later_type insts k) also) ∙ old in
         ap (λ (i : Inst). is_type i.op) (level_inst g q low) ∙ second (nat_lt k q) (is_type (inst_at insts q).op) (lt-ltb k q less) judged
       where
         second : (a b : Bool) → a ≡ true → (a && b) ≡ false → b ≡ false
@@ -147,7 +147,7 @@ type_behind g old k id shape late is = by_found (definition insts id) refl
 
 -- ---- what is allowed
 
-breaks_none : (known : Knowledge) (inst : Inst) → is_type inst.op ≡ false → (inst.op == op.VARIABLE ≡ true → is_pointer_of (word_at 2 inst) (meaning_in (known (word_at 0 inst))) ≡ true)
+pub breaks_none : (known : Knowledge) (inst : Inst) → is_type inst.op ≡ false → (inst.op == op.VARIABLE ≡ true → is_pointer_of (word_at 2 inst) (meaning_in (known (word_at 0 inst))) ≡ true)
     → (inst.op == op.FUNCTION ≡ true → (is_void (meaning_in (known (word_at 0 inst))) && is_function (meaning_in (known (word_at 3 inst)))) ≡ true) → breaks_types known inst ≡ false
 unfolding breaks_types
 breaks_none known inst no_type variable function = rw no_type (by_tests (inst.op == op.VARIABLE) (inst.op == op.FUNCTION) variable function)

@@ -68,7 +68,7 @@ variable_old g k low within is = elim (cases_lt d.before k) [
     d : Derives g.words.insts
     d = g.valid.derivation
 
-written_variable : (g : Planned) (old : ℕ) (inst : Inst) → IsWritten g old inst → inst.op == op.VARIABLE ≡ true → inst_at g.words.insts old ≡ inst
+pub written_variable : (g : Planned) (old : ℕ) (inst : Inst) → IsWritten g old inst → inst.op == op.VARIABLE ≡ true → inst_at g.words.insts old ≡ inst
 written_variable g old inst (goes label same may at) is = absurd (clash (inst.op == op.VARIABLE) is (ap (λ (i : Inst). i.op == op.VARIABLE) (sym at) ∙ no_variables.branch))
 written_variable g old inst (picks label same may at) is = absurd (clash (inst.op == op.VARIABLE) is (ap (λ (i : Inst). i.op == op.VARIABLE) (sym at) ∙ no_variables.switch))
 written_variable g old inst (keeps same at) is =

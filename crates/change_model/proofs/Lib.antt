@@ -2,15 +2,20 @@ pub mod AlikeStates
 pub mod BehindLevel
 mod Worked
 pub mod ChangedBounds
+pub mod ChangedDeclared
+pub mod ChangedDecorated
+pub mod ChangedDecorations
 pub mod ChangedDefinitions
 pub mod ChangedEntry
 pub mod ChangedIds
 pub mod ChangedInterface
 pub mod ChangedLabels
 pub mod ChangedMeanings
+pub mod ChangedNames
 pub mod ChangedPlaces
 pub mod ChangedPrograms
 pub mod ChangedShapes
+pub mod ChangedSound
 pub mod ChangedTypes
 pub mod ChangedVariables
 pub mod ChangedWords
@@ -48,6 +53,7 @@ pub mod Planned
 pub mod RenamedWords
 pub mod ResultsAmongIds
 pub mod SameEffects
+pub mod SameFacts
 pub mod SameFunction
 pub mod SameStarts
 pub mod SettledBlocks
