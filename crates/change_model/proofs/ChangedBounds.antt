@@ -1,34 +1,25 @@
 -- The ids of what a plan writes are below the bound.
-use Rattle.std.proofs.Common.{◌≡◌, ℕ, ◌<◌, ◌≤◌, ◌%◌, ◌==◌, ◌&&◌, ◌⊎◌, not, nat_lt, inl, inr, Bool, true, false, if◌then◌else◌, List, [], ◌∷◌, ◌++◌, length, take, drop, map, refl, ap, sym, ◌∙◌, subst, arith, Option, None, Some}
+use Rattle.std.proofs.Common.{◌≡◌, ℕ, ◌<◌, ◌%◌, ◌==◌, ◌&&◌, ◌⊎◌, not, nat_lt, inl, inr, Bool, true, false, if◌then◌else◌, List, [], ◌∷◌, ◌++◌, length, take, drop, map, refl, ap, sym, ◌∙◌, Option, None, Some}
 use Rattle.std.specs.Prelude.{is_some}
 use Rattle.std.specs.Option.{option_map}
 use Rattle.std.specs.List.{list_all}
-use Rattle.std.proofs.lemmas.Bool.{cases_lt}
 use Rattle.spirv_model.specs.declared.module.Inst.{Inst}
 use Rattle.spirv_model.specs.declared.op.TheConstants as op
 use Rattle.spirv_model.specs.declared.table.Operand.{Operand}
 use Rattle.spirv_model.specs.declared.table.Operand.TheVariants.{IdResultType, IdResult, IdRef, LiteralInteger, Fixed, LiteralString}
-use Rattle.spirv_model.specs.Operands.{word_at, words_from, entry_of, class_of, literal_and_id, kinds_in, kinds, ids_among, ids_by, ids, result}
-use Rattle.scalar_model.specs.declared.scalar_value.Scalar.{Scalar}
-use Rattle.scalar_model.specs.declared.scalar_value.Scalar.TheVariants.{Bool as TruthOf, Word as WordOf}
+use Rattle.spirv_model.specs.Operands.{words_from, entry_of, class_of, kinds_in, kinds, ids_among, ids_by, ids, result}
 use Rattle.body_model.specs.Switches.{is_among}
 use Rattle.valid_model.specs.Definitions.{inst_at, definition, id_out_of_bound}
-use Rattle.stage_model.specs.Effect.{target_for}
 use Rattle.typed_model.proofs.SilentSteps.{given_id}
 use Rattle.typed_model.proofs.TypedSteps.{gives_at}
 use Rattle.typed_model.proofs.ValidModules.{valid_sound}
 use Rattle.typed_model.proofs.ValidTypes.{defined_within}
-use Rattle.unit_model.specs.ConstantScalars.{chosen_target}
 use Rattle.change_model.specs.declared.fate.Fate.TheVariants.{Resolves}
-use Rattle.change_model.specs.Folding.{function_at}
-use Rattle.change_model.specs.Plans.{Plan, renamed_words, renamed_by, pairs_left, kept_at, phi_left, predecessors_left, block_at, branch_to, switch_to, changed}
-use Rattle.change_model.specs.PlanRules.{IsResolved, IsResolvedId, switched_target, scalar_left, only_target}
-use Rattle.change_model.proofs.BehindLevel.{BehindLevel, new_one, written_one, behind_level, is_setting_class, setting_fails, fails_function}
-use Rattle.change_model.proofs.ChangedMeanings.{level_inst}
-use Rattle.change_model.proofs.ChangedPlaces.{function_within}
+use Rattle.change_model.specs.Plans.{Plan, renamed_words, renamed_by, pairs_left, kept_at, phi_left, predecessors_left, block_at}
+use Rattle.change_model.specs.PlanRules.{IsResolvedId}
+use Rattle.change_model.proofs.BehindLevel.{is_setting_class}
 use Rattle.change_model.proofs.ConstantsSound.{keeps_all}
 use Rattle.change_model.proofs.KindsByLength.{same_kinds, renamed_long}
-use Rattle.change_model.proofs.NewConstants.{IsPlainConstant}
 use Rattle.change_model.proofs.Planned.{Planned, inside, fits_there}
 use Rattle.change_model.proofs.ResultsAmongIds.{true_of_result}
 use Rattle.change_model.proofs.Settlings.{op_is}

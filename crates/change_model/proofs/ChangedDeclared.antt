@@ -1,5 +1,5 @@
 -- What the list that a plan makes declares is allowed.
-use Rattle.std.proofs.Common.{◌≡◌, ℕ, ◌<◌, ◌≤◌, ◌==◌, ◌&&◌, ◌||◌, not, inl, inr, Bool, true, false, if◌then◌else◌, List, [], ◌∷◌, length, slice_index, refl, ap, sym, ◌∙◌, subst, arith, Option, None, Some}
+use Rattle.std.proofs.Common.{◌≡◌, ℕ, ◌<◌, ◌≤◌, ◌==◌, ◌&&◌, ◌||◌, not, inl, inr, Bool, true, false, if◌then◌else◌, List, [], ◌∷◌, length, slice_index, refl, ap, sym, ◌∙◌, subst, arith}
 use Rattle.std.specs.Prelude.{is_some, is_none}
 use Rattle.std.proofs.lemmas.Bool.{cases_lt}
 use Rattle.std.proofs.lemmas.Bool.Decides.{nat_tests}
@@ -13,7 +13,7 @@ use Rattle.valid_model.specs.Definitions.{inst_at}
 use Rattle.valid_model.specs.FirstFault.{bad_type}
 use Rattle.valid_model.specs.Knowledge.{Knowledge, is_void, meaning_in}
 use Rattle.valid_model.specs.Types.{is_type_class, is_type, is_pointer_of, is_function, type_of, breaks_types, has_later_type}
-use Rattle.valid_model.specs.Meanings.{known_by, known_before, meaning}
+use Rattle.valid_model.specs.Meanings.{known_by, known_before}
 use Rattle.typed_model.proofs.BlockParts.{another, clash}
 use Rattle.typed_model.proofs.ValidModules.{valid_sound}
 use Rattle.typed_model.proofs.ValidTypes.{keeps_rules, unbroken, pointer_by, stays_known}

@@ -1,5 +1,5 @@
 -- The variables of the function are allowed in the list that a plan makes, and with them all decorations.
-use Rattle.std.proofs.Common.{◌≡◌, ℕ, zero, suc, ◌<◌, ◌≤◌, ◌==◌, ◌&&◌, ◌||◌, inl, inr, Bool, true, false, if◌then◌else◌, List, [], ◌∷◌, length, take, refl, ap, sym, ◌∙◌, subst, arith, Option, None, Some}
+use Rattle.std.proofs.Common.{◌≡◌, ℕ, zero, suc, ◌<◌, ◌≤◌, ◌==◌, ◌&&◌, ◌||◌, inl, inr, Bool, true, false, if◌then◌else◌, List, [], ◌∷◌, length, take, refl, ap, sym, ◌∙◌, arith, Option}
 use Rattle.std.specs.List.{list_any}
 use Rattle.std.proofs.lemmas.Bool.{cases_lt}
 use Rattle.spirv_model.specs.declared.module.Inst.{Inst}
@@ -10,7 +10,7 @@ use Rattle.spirv_model.specs.declared.storage_class.TheConstants as storage_clas
 use Rattle.spirv_model.specs.Operands.{word_at, entry_of, class_of}
 use Rattle.valid_model.specs.Decorations.{bad_decorate, bad_member_decorate, breaks_decorations, bad_decoration}
 use Rattle.valid_model.specs.Definitions.{inst_at}
-use Rattle.valid_model.specs.EarlierFacts.{EarlierFacts, is_position_variable, before_of}
+use Rattle.valid_model.specs.EarlierFacts.{EarlierFacts, before_of}
 use Rattle.valid_model.specs.ModuleFacts.{ModuleFacts, facts_of, has_position, is_word}
 use Rattle.valid_model.specs.Variables.{bad_interface, bad_location, bad_uniform, bad_push, second_position, bad_variable}
 use Rattle.typed_model.proofs.BlockParts.{another, clash}
@@ -22,10 +22,10 @@ use Rattle.change_model.proofs.BehindLevel.{BehindLevel, new_one, written_one, b
 use Rattle.change_model.proofs.ChangedDecorations.{decorations_of_level}
 use Rattle.change_model.proofs.ChangedMeanings.{level_inst}
 use Rattle.change_model.proofs.ChangedPlaces.{place_left, rises}
-use Rattle.change_model.proofs.ChangedShapes.{SaySame, facts_changed}
+use Rattle.change_model.proofs.ChangedShapes.{facts_changed}
 use Rattle.change_model.proofs.ChangedVariables.{variable_old, written_variable}
 use Rattle.change_model.proofs.NewConstants.{new_is_plain}
-use Rattle.change_model.proofs.Planned.{Planned, IsWritten}
+use Rattle.change_model.proofs.Planned.{Planned}
 use Rattle.change_model.proofs.SameFacts.{location_same, position_same}
 use Rattle.change_model.proofs.Settlings.{op_is}
 

@@ -1,7 +1,6 @@
 -- Decorations and variables are allowed in the list that a plan makes.
-use Rattle.std.proofs.Common.{◌≡◌, ℕ, zero, suc, ◌<◌, ◌≤◌, ◌==◌, ◌&&◌, ◌||◌, not, inl, inr, Bool, true, false, if◌then◌else◌, List, [], ◌∷◌, length, take, refl, ap, sym, ◌∙◌, subst, arith, Option, None, Some}
-use Rattle.std.specs.Prelude.{is_some}
-use Rattle.std.specs.Option.{option_map, option_and_then}
+use Rattle.std.proofs.Common.{◌≡◌, ℕ, ◌<◌, ◌≤◌, ◌==◌, ◌&&◌, ◌||◌, not, inl, inr, Bool, true, false, if◌then◌else◌, List, length, take, refl, ap, sym, ◌∙◌, arith, Option, None, Some}
+use Rattle.std.specs.Option.{option_map}
 use Rattle.std.specs.List.{list_any}
 use Rattle.std.proofs.lemmas.Bool.{cases_lt}
 use Rattle.spirv_model.specs.declared.module.Inst.{Inst}
@@ -15,19 +14,19 @@ use Rattle.spirv_model.specs.Operands.{word_at, entry_of, class_of}
 use Rattle.body_model.specs.Classes.{is_plain_class, is_terminator_class}
 use Rattle.valid_model.specs.declared.meaning.IdFacts.{IdFacts}
 use Rattle.valid_model.specs.declared.meaning.Meaning.{Meaning}
-use Rattle.valid_model.specs.declared.meaning.Meaning.TheVariants.{Absent, Variable, Value as OfValue, Label, Other}
+use Rattle.valid_model.specs.declared.meaning.Meaning.TheVariants.{Variable, Value as OfValue, Label, Other}
 use Rattle.valid_model.specs.DecorationWords.{is_listed, decorates, places_member}
 use Rattle.valid_model.specs.Decorations.{is_out_of_range, repeats, bad_decorate, bad_member_decorate, breaks_decorations, bad_decoration}
 use Rattle.valid_model.specs.Definitions.{inst_at, definition}
-use Rattle.valid_model.specs.EarlierFacts.{EarlierFacts, has_spec_id, has_slot, is_variable_of, is_position_variable, before_of}
+use Rattle.valid_model.specs.EarlierFacts.{EarlierFacts, has_spec_id, is_variable_of, before_of}
 use Rattle.valid_model.specs.Knowledge.{is_bool, is_integer, is_storage_class, meaning_in, means}
 use Rattle.valid_model.specs.Meanings.{known_before, meaning}
-use Rattle.valid_model.specs.ModuleFacts.{ModuleFacts, facts_of, opcode_at, opcode_of, is_vertex, is_word, has_position, is_spec_class, is_spec_op}
+use Rattle.valid_model.specs.ModuleFacts.{ModuleFacts, facts_of, opcode_at, opcode_of, is_vertex, is_word, is_spec_class, is_spec_op}
 use Rattle.valid_model.specs.BuiltIns.{takes_built_in}
 use Rattle.valid_model.specs.Shapes.{held_type, is_position_type}
 use Rattle.valid_model.specs.Variables.{bad_variable}
 use Rattle.valid_model.proofs.KnownIds.{unknown_without_definition}
-use Rattle.typed_model.proofs.BlockParts.{another, clash}
+use Rattle.typed_model.proofs.BlockParts.{clash}
 use Rattle.typed_model.proofs.ModuleValues.{meaning_at}
 use Rattle.typed_model.proofs.ValidTypes.{keeps_decorations, defined_within}
 use Rattle.change_model.specs.Folding.{function_at}

@@ -1,15 +1,13 @@
 -- Which instruction defines an id in the list that a plan makes.
-use Rattle.std.proofs.Common.{◌≡◌, ℕ, suc, ◌+◌, ◌<◌, ◌≤◌, ◌==◌, ◌⊎◌, inl, inr, Bool, true, false, nat_lt, if◌then◌else◌, List, [], ◌∷◌, length, slice_get, refl, ap, sym, ◌∙◌, subst, arith, le-ltb, Option, None, Some}
+use Rattle.std.proofs.Common.{◌≡◌, ℕ, ◌<◌, ◌≤◌, inl, inr, Bool, true, false, if◌then◌else◌, List, [], ◌∷◌, length, slice_get, refl, ap, sym, ◌∙◌, subst, arith, le-ltb, Option, None, Some}
 use Rattle.std.specs.Option.{unwrap_or, option_and_then}
 use Rattle.std.proofs.lemmas.Bool.{cases_lt}
 use Rattle.std.proofs.lemmas.Option.{get_or_from_slice_get, unwrap_or-slice_get}
 use Rattle.spirv_model.specs.declared.module.Inst.{Inst}
-use Rattle.spirv_model.specs.declared.module.Words.{Words}
 use Rattle.spirv_model.specs.Operands.{word_at, result}
 use Rattle.scalar_model.specs.declared.scalar_value.Scalar.{Scalar}
 use Rattle.scalar_model.specs.declared.scalar_value.Scalar.TheVariants.{Bool as TruthOf, Word as WordOf}
-use Rattle.valid_model.specs.Definitions.{gives, inst_at, no_instruction, definition, is_earlier, twice_by, id_twice}
-use Rattle.valid_model.specs.FirstFault.{type_fault}
+use Rattle.valid_model.specs.Definitions.{inst_at, no_instruction, definition, is_earlier, twice_by, id_twice}
 use Rattle.stage_model.specs.Start.{of_scalar}
 use Rattle.typed_model.proofs.BlockParts.{clash}
 use Rattle.typed_model.proofs.ModuleValues.{defined_at}

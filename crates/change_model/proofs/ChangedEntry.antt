@@ -1,5 +1,5 @@
 -- The function and the entry point are the same in the list that a plan makes.
-use Rattle.std.proofs.Common.{◌≡◌, ℕ, suc, ◌+◌, ◌<◌, ◌≤◌, ◌==◌, inl, inr, Bool, true, false, if◌then◌else◌, List, [], ◌∷◌, length, refl, ap, sym, ◌∙◌, subst, arith, Option, None, Some}
+use Rattle.std.proofs.Common.{◌≡◌, ℕ, ◌<◌, ◌==◌, inl, inr, true, false, if◌then◌else◌, List, [], ◌∷◌, length, refl, ap, sym, ◌∙◌, arith, Option, None, Some}
 use Rattle.std.specs.Option.{option_map}
 use Rattle.std.specs.List.{find}
 use Rattle.std.proofs.lemmas.Bool.{cases_lt}
@@ -14,7 +14,6 @@ use Rattle.valid_model.specs.Definitions.{inst_at}
 use Rattle.valid_model.specs.ModuleFacts.{is_entry}
 use Rattle.check_model.specs.EntryPoints.{is_op_function, function_id, entry_points, is_one_entry, bad_entry_count}
 use Rattle.typed_model.proofs.BlockParts.{another}
-use Rattle.change_model.specs.declared.fate.Fate.TheVariants.{Stays}
 use Rattle.change_model.specs.Folding.{function_at}
 use Rattle.change_model.specs.Plans.{kept_at, written_as, written_at, changed}
 use Rattle.change_model.specs.Settling.{is_plain_constant_class}

@@ -1,10 +1,9 @@
 -- The list that a plan makes has the interface of the one before, one entry point, and no further fault of locations.
-use Rattle.std.proofs.Common.{◌≡◌, ℕ, suc, ◌+◌, ◌<◌, ◌≤◌, ◌==◌, ◌&&◌, ◌||◌, inl, inr, Bool, true, false, if◌then◌else◌, List, [], ◌∷◌, length, take, map, refl, ap, sym, ◌∙◌, arith, Option, None, Some}
+use Rattle.std.proofs.Common.{◌≡◌, ℕ, ◌==◌, ◌&&◌, ◌||◌, Bool, true, false, if◌then◌else◌, List, length, map, refl, ap, sym, ◌∙◌, Option, None, Some}
 use Rattle.std.proofs.Math.Path.{fun_ext}
 use Rattle.std.specs.Prelude.{not, nat_le, filter, is_some}
-use Rattle.std.specs.Option.{option_map, option_and_then}
+use Rattle.std.specs.Option.{option_and_then}
 use Rattle.std.specs.List.{find, list_any, range_with_len}
-use Rattle.std.proofs.lemmas.Bool.{cases_lt}
 use Rattle.limits.specs.declared.TheConstants.{LOCATIONS}
 use Rattle.spirv_model.specs.declared.module.Inst.{Inst}
 use Rattle.spirv_model.specs.declared.op.TheConstants as op
@@ -14,17 +13,15 @@ use Rattle.spirv_model.specs.declared.storage_class.TheConstants as storage_clas
 use Rattle.spirv_model.specs.Operands.{word_at}
 use Rattle.state_model.specs.declared.iface.Slot.{Slot}
 use Rattle.valid_model.specs.declared.meaning.Shape.{Shape}
-use Rattle.valid_model.specs.declared.meaning.Shape.TheVariants.{Void, Bool as Truth, Int, BoolVector, IntVector, Array, Struct, Pointer, Function}
+use Rattle.valid_model.specs.declared.meaning.Shape.TheVariants.{Int, IntVector, Pointer}
 use Rattle.valid_model.specs.declared.meaning.Meaning.{Meaning}
 use Rattle.valid_model.specs.declared.meaning.Meaning.TheVariants.{Absent, Shape as OfShape, Constant, Variable, Value as OfValue, Label, Other}
 use Rattle.valid_model.specs.EarlierFacts.{is_variable_of}
-use Rattle.valid_model.specs.ModuleFacts.{ModuleFacts, facts_of, is_entry, is_vertex, is_word}
+use Rattle.valid_model.specs.ModuleFacts.{ModuleFacts, facts_of, is_vertex, is_word}
 use Rattle.valid_model.specs.Shapes.{pointee_id, pointee, held_type}
-use Rattle.check_model.specs.EntryPoints.{is_op_function, function_id, entry_points, is_one_entry, bad_entry_count}
 use Rattle.check_model.specs.Interfaces.{is_variable_at, lowest_location, is_smooth, has_smooth_input, not_flat, are_two, location_twice, stage_of, slot_in, slot_of_variable, slot_at, inputs_of, outputs_of}
 use Rattle.change_model.specs.Plans.{changed}
 use Rattle.change_model.specs.Keeping.{HasInterfaceOf}
-use Rattle.change_model.proofs.BehindLevel.{setting_filtered, no_setting, are_settings}
 use Rattle.change_model.proofs.ChangedShapes.{shape_in, SaySame, facts_changed}
 use Rattle.change_model.proofs.ChangedVariables.{IsOfLevel, variable_found, variable_filtered, other_class}
 use Rattle.change_model.proofs.Planned.{Planned}

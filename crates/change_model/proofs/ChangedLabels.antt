@@ -1,10 +1,9 @@
 -- Where labels stand in the list that a plan makes.
-use Rattle.std.proofs.Common.{◌≡◌, ℕ, zero, suc, ◌+◌, ◌<◌, ◌≤◌, ◌==◌, ◌&&◌, ◌||◌, inl, inr, Bool, true, false, if◌then◌else◌, List, [], ◌∷◌, length, slice_index, refl, ap, sym, ◌∙◌, subst, arith, Option, None, Some}
+use Rattle.std.proofs.Common.{◌≡◌, ℕ, zero, suc, ◌<◌, ◌≤◌, ◌==◌, ◌&&◌, ◌||◌, inl, inr, Bool, true, false, if◌then◌else◌, List, [], ◌∷◌, length, slice_index, refl, ap, sym, ◌∙◌, subst, arith, Option, None, Some}
 use Rattle.std.specs.Option.{option_map}
 use Rattle.std.proofs.lemmas.Bool.{cases_lt}
 use Rattle.std.proofs.lemmas.Bool.Decides.{nat_tests}
 use Rattle.spirv_model.specs.declared.module.Inst.{Inst}
-use Rattle.spirv_model.specs.declared.class.Class.{Class}
 use Rattle.spirv_model.specs.declared.op.TheConstants as op
 use Rattle.spirv_model.specs.Operands.{word_at, entry_of, class_of, result_in, result}
 use Rattle.body_model.specs.Classes.{is_plain, is_module_level}
@@ -12,24 +11,19 @@ use Rattle.body_model.proofs.ClassFacts.{no_level_label}
 use Rattle.check_model.specs.Intervals.{intervals_of}
 use Rattle.valid_model.specs.Definitions.{inst_at}
 use Rattle.stage_model.specs.Program.{is_label, first_label_place}
-use Rattle.typed_model.proofs.BlockParts.{another, clash}
+use Rattle.typed_model.proofs.BlockParts.{clash}
 use Rattle.change_model.specs.declared.fate.Fate.{Fate}
 use Rattle.change_model.specs.declared.fate.Fate.TheVariants.{Dead, Stays, Goes, Picks, Folds, Nulls, Resolves, Skips, Unused}
 use Rattle.change_model.specs.Folding.{function_at}
 use Rattle.change_model.specs.Plans.{written_as, written_at, is_dead, changed}
-use Rattle.change_model.specs.PlanRules.{FateFits, MaySkip, selection, loop, MayBeUnused, result_of, store, stays}
-use Rattle.change_model.specs.Settling.{is_plain_constant_class}
-use Rattle.change_model.proofs.BehindLevel.{BehindLevel, new_one, written_one, behind_level}
-use Rattle.change_model.proofs.ChangedDefinitions.{is_left, ComesFrom, comes_from, old_defined, one_place, written_there}
-use Rattle.change_model.proofs.ChangedMeanings.{level_inst}
+use Rattle.change_model.specs.PlanRules.{FateFits, MaySkip, selection, loop, MayBeUnused, result_of, store}
+use Rattle.change_model.proofs.ChangedDefinitions.{is_left, comes_from, old_defined, one_place, written_there}
 use Rattle.change_model.proofs.ChangedPlaces.{place_left, kept_there}
 use Rattle.change_model.proofs.FoldedRuns.{is_scalar, others}
 use Rattle.change_model.proofs.FunctionKnown.{label_as_is}
 use Rattle.change_model.proofs.MovedUp.{function_is, level_inst as level_op}
-use Rattle.change_model.proofs.NewConstants.{new_is_plain}
 use Rattle.change_model.proofs.Pieces.{got_within}
-use Rattle.change_model.proofs.Planned.{Planned, IsWritten, keeps, goes, picks, IsChoice, conditional, switch, choice_of, IsInside, inside, fits_there}
-use Rattle.change_model.proofs.RenamedWords.{kept_result}
+use Rattle.change_model.proofs.Planned.{Planned, IsChoice, conditional, switch, choice_of, IsInside, inside, fits_there}
 use Rattle.change_model.proofs.Settlings.{op_is}
 
 -- ---- labels of a list

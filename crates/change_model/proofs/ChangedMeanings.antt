@@ -1,7 +1,6 @@
 -- What ids mean in the list that a plan makes.
-use Rattle.std.proofs.Common.{◌≡◌, ℕ, zero, suc, ◌+◌, ◌<◌, ◌≤◌, ◌==◌, inl, inr, Bool, true, false, List, [], ◌∷◌, length, take, refl, ap, sym, ◌∙◌, subst, arith, Option, None, Some}
+use Rattle.std.proofs.Common.{◌≡◌, ℕ, zero, suc, ◌<◌, ◌≤◌, ◌==◌, inl, inr, Bool, true, false, List, [], ◌∷◌, length, take, refl, ap, sym, ◌∙◌, subst, arith, Option, None, Some}
 use Rattle.std.proofs.lemmas.Bool.{cases_lt}
-use Rattle.std.proofs.lemmas.Bool.Decides.{nat_tests}
 use Rattle.spirv_model.specs.declared.module.Inst.{Inst}
 use Rattle.spirv_model.specs.declared.class.Class.{Class}
 use Rattle.spirv_model.specs.declared.class.Class.TheVariants as class
@@ -10,10 +9,9 @@ use Rattle.spirv_model.specs.Operands.{word_at, entry_of, class_of, result}
 use Rattle.body_model.specs.Classes.{is_plain_class, is_plain}
 use Rattle.body_model.specs.Grammar.{Derives}
 use Rattle.valid_model.specs.declared.meaning.IdFacts.{IdFacts}
-use Rattle.valid_model.specs.declared.meaning.Meaning.{Meaning}
 use Rattle.valid_model.specs.declared.meaning.Meaning.TheVariants.{Absent, Constant, Value as OfValue}
 use Rattle.valid_model.specs.Definitions.{inst_at, definition}
-use Rattle.valid_model.specs.Knowledge.{Knowledge, meaning_in, means}
+use Rattle.valid_model.specs.Knowledge.{meaning_in, means}
 use Rattle.valid_model.specs.Meanings.{known_of, known_by, known_before, meaning}
 use Rattle.valid_model.proofs.KnownIds.{known_by_definition, unknown_without_definition}
 use Rattle.typed_model.proofs.BlockParts.{BlockPart, a_label, a_phi, a_variable, a_selection_merge, a_loop_merge, a_plain_one, a_terminator}
@@ -35,7 +33,7 @@ use Rattle.change_model.proofs.FoldedOperations.{IsAlone, function_alone, functi
 use Rattle.change_model.proofs.FoldedRuns.{is_scalar_class}
 use Rattle.change_model.proofs.FunctionKnown.{function_facts, function_known, label_facts, op_function_facts, phi_facts, plain_facts, store_result, selection_merge_result, loop_merge_result, function_end_result, variable_as_is}
 use Rattle.change_model.proofs.MovedUp.{function_is}
-use Rattle.change_model.proofs.NewConstants.{IsPlainConstant, new_is_plain}
+use Rattle.change_model.proofs.NewConstants.{new_is_plain}
 use Rattle.change_model.proofs.Planned.{Planned, IsWritten, keeps, goes, picks, is_written, IsNewConstant, folds, nulls, is_new_constant, choice_of, choice_ends}
 use Rattle.change_model.proofs.RenamedWords.{is_value_class, KeepsResult, kept_result, keeps_type}
 use Rattle.change_model.proofs.SettledMeanings.{known_constant, constant_is_no_type, constant_is_constant}

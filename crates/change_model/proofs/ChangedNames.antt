@@ -1,8 +1,7 @@
 -- Which ids have other names: phis that go, and no types.
-use Rattle.std.proofs.Common.{◌≡◌, ℕ, ◌<◌, ◌≤◌, ◌==◌, ◌⊎◌, inl, inr, Bool, true, false, List, [], ◌∷◌, length, refl, ap, sym, ◌∙◌, arith, Option, None, Some}
-use Rattle.spirv_model.specs.declared.module.Inst.{Inst}
+use Rattle.std.proofs.Common.{◌≡◌, ℕ, ◌<◌, ◌≤◌, ◌==◌, ◌⊎◌, inl, inr, true, false, length, refl, ap, sym, ◌∙◌, arith, Option, None, Some}
 use Rattle.spirv_model.specs.declared.op.TheConstants as op
-use Rattle.spirv_model.specs.Operands.{word_at, entry_of, class_of, result}
+use Rattle.spirv_model.specs.Operands.{word_at, entry_of, class_of}
 use Rattle.valid_model.specs.declared.meaning.Shape.{Shape}
 use Rattle.valid_model.specs.declared.meaning.Meaning.TheVariants.{Shape as OfShape}
 use Rattle.valid_model.specs.Definitions.{inst_at, definition}

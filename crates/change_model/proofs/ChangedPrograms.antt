@@ -1,16 +1,16 @@
 -- Types have the same layouts in the list that a plan makes, and decorations, offsets and outputs are the same.
-use Rattle.std.proofs.Common.{◌≡◌, ℕ, zero, suc, ◌+◌, ◌<◌, ◌≤◌, ◌==◌, ◌&&◌, ◌||◌, Bool, true, false, if◌then◌else◌, List, [], ◌∷◌, ◌++◌, length, take, drop, slice_index, refl, ap, sym, ◌∙◌, subst, arith, length-drop, take-append-drop, Option, None, Some}
+use Rattle.std.proofs.Common.{◌≡◌, ℕ, suc, ◌+◌, ◌<◌, ◌≤◌, ◌==◌, ◌&&◌, ◌||◌, Bool, true, false, if◌then◌else◌, List, [], ◌∷◌, length, take, drop, refl, ap, sym, ◌∙◌, arith, length-drop, take-append-drop, Option, None, Some}
 use Rattle.std.proofs.Math.Path.{fun_ext}
 use Rattle.std.specs.Prelude.{is_none}
 use Rattle.std.specs.Option.{option_map}
-use Rattle.std.specs.List.{find, fold}
+use Rattle.std.specs.List.{fold}
 use Rattle.std.proofs.lemmas.List.{get_or-drop, get_or-take, length-take-le}
 use Rattle.std.proofs.lemmas.List.Sums.{fold-append}
 use Rattle.spirv_model.specs.declared.module.Inst.{Inst}
 use Rattle.spirv_model.specs.declared.op.TheConstants as op
-use Rattle.spirv_model.specs.Operands.{word_at, entry_of, class_of, result}
+use Rattle.spirv_model.specs.Operands.{word_at, result}
 use Rattle.valid_model.specs.declared.meaning.Meaning.{Meaning}
-use Rattle.valid_model.specs.declared.meaning.Meaning.TheVariants.{Constant, Variable, Value as OfValue, Label, Other}
+use Rattle.valid_model.specs.declared.meaning.Meaning.TheVariants.{Variable, Value as OfValue, Label, Other}
 use Rattle.valid_model.specs.DecorationWords.{decorates, places_member, decoration_of, offset_of}
 use Rattle.valid_model.specs.Definitions.{gives, inst_at, no_instruction, definition}
 use Rattle.valid_model.specs.Knowledge.{Knowledge, is_storage_class, meaning_in, means}

@@ -1,5 +1,5 @@
 -- Which ids are types, and of which shape, is the same in the list that a plan makes, as are the facts that the rules of decorations ask.
-use Rattle.std.proofs.Common.{◌≡◌, ℕ, ◌<◌, ◌≤◌, ◌==◌, ◌||◌, inl, inr, Bool, true, false, if◌then◌else◌, List, [], ◌∷◌, refl, ap, sym, ◌∙◌, Option, None, Some}
+use Rattle.std.proofs.Common.{◌≡◌, ℕ, ◌≤◌, ◌==◌, ◌||◌, inl, inr, Bool, true, false, if◌then◌else◌, List, refl, ap, sym, ◌∙◌, Option, None, Some}
 use Rattle.std.specs.Option.{option_map}
 use Rattle.std.proofs.lemmas.Bool.{cases_lt}
 use Rattle.spirv_model.specs.declared.module.Inst.{Inst}
@@ -7,9 +7,8 @@ use Rattle.spirv_model.specs.declared.op.TheConstants as op
 use Rattle.spirv_model.specs.Operands.{word_at}
 use Rattle.valid_model.specs.declared.meaning.IdFacts.{IdFacts}
 use Rattle.valid_model.specs.declared.meaning.Shape.{Shape}
-use Rattle.valid_model.specs.declared.meaning.Shape.TheVariants.{Pointer}
 use Rattle.valid_model.specs.declared.meaning.Meaning.{Meaning}
-use Rattle.valid_model.specs.declared.meaning.Meaning.TheVariants.{Absent, Shape as OfShape, Constant, Variable, Value as OfValue, Label, Other}
+use Rattle.valid_model.specs.declared.meaning.Meaning.TheVariants.{Shape as OfShape, Variable, Value as OfValue, Label, Other}
 use Rattle.valid_model.specs.DecorationWords.{decoration_of, offset_of}
 use Rattle.valid_model.specs.Definitions.{inst_at, definition}
 use Rattle.valid_model.specs.Knowledge.{is_storage_class, meaning_in, means}

@@ -1,19 +1,12 @@
 -- What is sound of the list that a plan makes: ids are given once and below the bound, and types and decorations are allowed.
 use Rattle.std.proofs.Common.{◌≡◌, ℕ, ◌<◌, ◌≤◌, false, List, ap, ◌∙◌, arith}
-use Rattle.std.proofs.lemmas.Bool.{cases_lt}
 use Rattle.spirv_model.specs.declared.module.Inst.{Inst}
-use Rattle.spirv_model.specs.Operands.{class_of}
-use Rattle.valid_model.specs.Constants.{constant_fits, breaks_constants}
-use Rattle.valid_model.specs.Definitions.{inst_at, id_twice, id_out_of_bound}
-use Rattle.valid_model.specs.FirstFault.{bad_type, bad_constant}
-use Rattle.valid_model.specs.Decorations.{bad_decoration}
-use Rattle.valid_model.specs.Meanings.{is_constant, known_by, known_before}
+use Rattle.valid_model.specs.Constants.{breaks_constants}
+use Rattle.valid_model.specs.Definitions.{inst_at}
+use Rattle.valid_model.specs.FirstFault.{bad_constant}
+use Rattle.valid_model.specs.Meanings.{known_by, known_before}
 use Rattle.change_model.specs.Folding.{function_at}
 use Rattle.change_model.specs.Plans.{changed}
-use Rattle.change_model.proofs.ChangedDeclared.{types_changed}
-use Rattle.change_model.proofs.ChangedDecorated.{decorations_stay}
-use Rattle.change_model.proofs.ChangedDefinitions.{once_changed}
-use Rattle.change_model.proofs.ChangedIds.{bounded_changed}
 use Rattle.change_model.proofs.ChangedMeanings.{level_before, level_inst}
 use Rattle.change_model.proofs.ChangedPlaces.{function_within}
 use Rattle.change_model.proofs.ConstantsSound.{keeps_all}

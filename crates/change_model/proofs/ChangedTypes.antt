@@ -2,38 +2,30 @@
 use Rattle.std.proofs.Common.{◌≡◌, ℕ, zero, suc, ◌<◌, ◌≤◌, ◌==◌, ◌&&◌, ◌||◌, not, nat_lt, inl, inr, Bool, true, false, if◌then◌else◌, List, [], ◌∷◌, length, take, refl, ap, sym, ◌∙◌, arith, le-ltb, lt-ltb, Option, None, Some}
 use Rattle.std.specs.Option.{option_map}
 use Rattle.std.proofs.lemmas.Bool.{cases_lt}
-use Rattle.std.proofs.lemmas.Bool.Decides.{nat_tests}
 use Rattle.std.proofs.lemmas.List.{get_or-take}
 use Rattle.spirv_model.specs.declared.module.Inst.{Inst}
 use Rattle.spirv_model.specs.declared.op.TheConstants as op
-use Rattle.spirv_model.specs.Operands.{word_at, entry_of, class_of, kinds_in, kinds, result}
-use Rattle.valid_model.specs.declared.meaning.IdFacts.{IdFacts}
+use Rattle.spirv_model.specs.Operands.{word_at, result}
 use Rattle.valid_model.specs.declared.meaning.Shape.{Shape}
-use Rattle.valid_model.specs.declared.meaning.Shape.TheVariants.{Void, Pointer, Function}
-use Rattle.valid_model.specs.declared.meaning.Meaning.{Meaning}
 use Rattle.valid_model.specs.declared.meaning.Meaning.TheVariants.{Absent, Shape as OfShape}
 use Rattle.valid_model.specs.Definitions.{gives, inst_at, no_instruction, definition}
 use Rattle.valid_model.specs.FirstFault.{bad_type}
 use Rattle.valid_model.specs.Knowledge.{Knowledge, is_void, meaning_in}
-use Rattle.valid_model.specs.Types.{is_type_class, is_type, is_pointer_of, is_function, breaks_types, result_type, is_type_after, is_later_type, has_later_type}
+use Rattle.valid_model.specs.Types.{is_type, is_pointer_of, is_function, breaks_types, result_type, is_type_after, is_later_type, has_later_type}
 use Rattle.valid_model.specs.Meanings.{known_of, known_by, known_before, meaning}
 use Rattle.valid_model.proofs.KnownIds.{known_by_definition, unknown_without_definition}
-use Rattle.typed_model.proofs.BlockParts.{another, clash}
-use Rattle.typed_model.proofs.ResultIds.{typed_result_id}
 use Rattle.typed_model.proofs.SilentSteps.{given_id}
 use Rattle.typed_model.proofs.TypedSteps.{gives_at}
-use Rattle.typed_model.proofs.ValidTypes.{defined_within, keeps_rules, unbroken, pointer_by, stays_known}
+use Rattle.typed_model.proofs.ValidTypes.{defined_within, stays_known}
 use Rattle.change_model.specs.Folding.{function_at}
 use Rattle.change_model.specs.Plans.{changed}
-use Rattle.change_model.proofs.BehindLevel.{BehindLevel, new_one, written_one, behind_level, no_type_behind, fails_written, type_fails}
+use Rattle.change_model.proofs.BehindLevel.{no_type_behind}
 use Rattle.change_model.proofs.ChangedDefinitions.{old_defined, level_defined}
 use Rattle.change_model.proofs.ChangedMeanings.{take_less, level_before, level_inst}
 use Rattle.change_model.proofs.ChangedPlaces.{function_within}
 use Rattle.change_model.proofs.ChangedShapes.{shape_in, function_shapeless}
 use Rattle.change_model.proofs.ConstantsSound.{keeps_all}
-use Rattle.change_model.proofs.NewConstants.{new_is_plain}
 use Rattle.change_model.proofs.Planned.{Planned}
-use Rattle.change_model.proofs.SettledMeanings.{constant_is_no_type}
 
 -- ---- types before their uses
 

@@ -1,11 +1,9 @@
 -- The variables of the module's level are the same in the list that a plan makes, and so are its outputs.
-use Rattle.std.proofs.Common.{◌≡◌, ℕ, ◌+◌, ◌<◌, ◌≤◌, ◌==◌, ◌&&◌, inl, inr, Bool, true, false, List, [], ◌∷◌, length, slice_index, refl, ap, sym, ◌∙◌, subst, arith, Option, None, Some}
-use Rattle.std.proofs.Math.Path.{fun_ext}
+use Rattle.std.proofs.Common.{◌≡◌, ℕ, ◌<◌, ◌≤◌, ◌==◌, ◌&&◌, inl, inr, Bool, true, false, List, length, slice_index, refl, ap, sym, ◌∙◌, arith, Option, Some}
 use Rattle.std.specs.Prelude.{filter}
 use Rattle.std.specs.Option.{option_map}
 use Rattle.std.specs.List.{find}
 use Rattle.std.proofs.lemmas.Bool.{cases_lt}
-use Rattle.std.proofs.lemmas.Bool.Decides.{nat_tests}
 use Rattle.spirv_model.specs.declared.module.Inst.{Inst}
 use Rattle.spirv_model.specs.declared.op.TheConstants as op
 use Rattle.spirv_model.specs.declared.storage_class.TheConstants as storage_class
@@ -14,13 +12,12 @@ use Rattle.body_model.specs.Grammar.{Derives}
 use Rattle.valid_model.specs.declared.meaning.Meaning.{Meaning}
 use Rattle.valid_model.specs.DecorationWords.{decoration_of, offset_of}
 use Rattle.valid_model.specs.Definitions.{inst_at, definition}
-use Rattle.valid_model.specs.Meanings.{meaning}
 use Rattle.stage_model.specs.Program.{Program, program_of}
 use Rattle.stage_model.specs.Stage.{is_number, is_output_with, output_with}
 use Rattle.typed_model.proofs.BlockParts.{another, clash}
 use Rattle.typed_model.proofs.VariableRuns.{class_is}
 use Rattle.change_model.specs.Folding.{function_at}
-use Rattle.change_model.specs.Plans.{changed, kept_at}
+use Rattle.change_model.specs.Plans.{changed}
 use Rattle.change_model.specs.Programs.{plainly}
 use Rattle.change_model.specs.Settling.{is_plain_constant_class}
 use Rattle.change_model.proofs.BehindLevel.{BehindLevel, new_one, written_one, behind_level, end_op}

@@ -1,11 +1,10 @@
 -- The list that a plan makes can be written, in no more words than the one before.
-use Rattle.std.proofs.Common.{◌≡◌, ℕ, zero, suc, ◌+◌, ◌-◌, ◌<◌, ◌≤◌, ◌&&◌, inl, inr, Bool, true, false, List, [], ◌∷◌, ◌++◌, length, take, drop, refl, ap, sym, ◌∙◌, subst, arith, take-append-drop, Option, None, Some}
+use Rattle.std.proofs.Common.{◌≡◌, ℕ, zero, suc, ◌+◌, ◌-◌, ◌<◌, ◌≤◌, ◌&&◌, inl, inr, Bool, true, false, List, [], ◌∷◌, ◌++◌, length, take, drop, refl, ap, sym, ◌∙◌, subst, arith, take-append-drop}
 use Rattle.std.specs.Prelude.{is_some}
-use Rattle.std.specs.List.{flat_map, list_all}
+use Rattle.std.specs.List.{list_all}
 use Rattle.std.proofs.lemmas.Bool.{cases_lt}
 use Rattle.std.proofs.lemmas.List.{drop_more}
 use Rattle.spirv_model.specs.declared.module.Inst.{Inst}
-use Rattle.spirv_model.specs.declared.module.Words.{Words}
 use Rattle.spirv_model.specs.Operands.{kinds}
 use Rattle.spirv_model.specs.Module.{module_words, fits_table, IsWritable}
 use Rattle.valid_model.specs.Definitions.{inst_at, no_instruction}
@@ -13,13 +12,13 @@ use Rattle.typed_model.proofs.ValidModules.{valid_sound}
 use Rattle.change_model.specs.declared.fate.Fate.{Fate}
 use Rattle.change_model.specs.declared.fate.Fate.TheVariants.{Dead, Stays, Goes, Picks, Folds, Nulls, Resolves, Skips, Unused}
 use Rattle.change_model.specs.Folding.{function_at}
-use Rattle.change_model.specs.Plans.{Plan, later_places, written_as, written_at, constant_as, constant_at, changed}
+use Rattle.change_model.specs.Plans.{Plan, written_as, written_at, constant_as, constant_at, changed}
 use Rattle.change_model.specs.PlanRules.{is_constant_fate}
 use Rattle.change_model.proofs.BehindLevel.{BehindLevel, new_one, written_one, behind_level}
 use Rattle.change_model.proofs.ChangedDefinitions.{constant_comes}
 use Rattle.change_model.proofs.ChangedMeanings.{level_inst}
 use Rattle.change_model.proofs.ChangedPlaces.{at_most_one, function_within}
-use Rattle.change_model.proofs.ChangedWords.{IsNoLonger, written_no_longer, constant_no_longer}
+use Rattle.change_model.proofs.ChangedWords.{written_no_longer, constant_no_longer}
 use Rattle.change_model.proofs.FoldedWords.{size, size_more, size_both, whole_size}
 use Rattle.change_model.proofs.Pieces.{pieces}
 use Rattle.change_model.proofs.Planned.{Planned, is_written, is_new_constant}

@@ -1,12 +1,9 @@
 -- What is known of the results of a function's instructions.
-use Rattle.std.proofs.Common.{◌≡◌, ℕ, ◌==◌, ◌||◌, Bool, true, false, if◌then◌else◌, List, [], ◌∷◌, refl, ap, sym, ◌∙◌, subst, Option, None, Some}
-use Rattle.std.specs.Option.{option_map}
+use Rattle.std.proofs.Common.{◌≡◌, ℕ, ◌==◌, Bool, true, false, if◌then◌else◌, List, [], ◌∷◌, refl, ap, ◌∙◌, None}
 use Rattle.spirv_model.specs.declared.module.Inst.{Inst}
-use Rattle.spirv_model.specs.declared.class.Class.{Class}
-use Rattle.spirv_model.specs.declared.class.Class.TheVariants as class
 use Rattle.spirv_model.specs.declared.op.TheConstants as op
 use Rattle.spirv_model.specs.Operands.{word_at, entry_of, class_of, kinds, kinds_in, result_in, result}
-use Rattle.body_model.specs.Classes.{is_plain_class, is_plain, is_terminator}
+use Rattle.body_model.specs.Classes.{is_plain}
 use Rattle.valid_model.specs.declared.meaning.IdFacts.{IdFacts}
 use Rattle.valid_model.specs.declared.meaning.Meaning.TheVariants.{Label, Other, Value as OfValue}
 use Rattle.valid_model.specs.Knowledge.{Knowledge, means}
@@ -14,7 +11,6 @@ use Rattle.valid_model.specs.Types.{is_type}
 use Rattle.valid_model.specs.Meanings.{is_constant, variable_meaning, other_meaning, known_of}
 use Rattle.typed_model.proofs.BlockParts.{another}
 use Rattle.change_model.specs.Plans.{Plan, renamed_by, kept_at, phi_left, predecessors_left, block_at}
-use Rattle.change_model.proofs.Settlings.{op_is}
 
 -- ---- what is known
 

@@ -1,18 +1,17 @@
 -- The constants that come for folded instructions, and the results of what is written.
-use Rattle.std.proofs.Common.{◌≡◌, ℕ, ◌==◌, Bool, true, false, List, [], ◌∷◌, refl, ap, sym, ◌∙◌, subst, Option, None, Some}
+use Rattle.std.proofs.Common.{◌≡◌, ℕ, ◌==◌, true, false, refl, ap, sym, ◌∙◌, subst, Option, Some}
 use Rattle.spirv_model.specs.declared.module.Inst.{Inst}
 use Rattle.spirv_model.specs.declared.op.TheConstants as op
 use Rattle.spirv_model.specs.Operands.{word_at, entry_of, class_of, result}
 use Rattle.scalar_model.specs.declared.scalar_value.Scalar.{Scalar}
 use Rattle.scalar_model.specs.declared.scalar_value.Scalar.TheVariants.{Bool as TruthOf, Word as WordOf}
-use Rattle.body_model.specs.Classes.{is_terminator}
 use Rattle.valid_model.specs.Definitions.{inst_at}
 use Rattle.stage_model.specs.Effect.{has_result_class}
 use Rattle.stage_model.specs.Start.{of_scalar}
 use Rattle.typed_model.proofs.ResultIds.{terminator_result, typed_result_id, defined_id}
 use Rattle.change_model.specs.Constants.{scalar_constant}
 use Rattle.change_model.specs.Settling.{is_plain_constant_class}
-use Rattle.change_model.proofs.FoldedRuns.{is_scalar, differs, others, result_class}
+use Rattle.change_model.proofs.FoldedRuns.{differs, others, result_class}
 use Rattle.change_model.proofs.Planned.{Planned, IsWritten, keeps, goes, picks, IsNewConstant, folds, nulls, choice_of, choice_ends, branches_end}
 use Rattle.change_model.proofs.RenamedWords.{keeps_result, kept_result}
 use Rattle.change_model.proofs.Settlings.{constant_defines}

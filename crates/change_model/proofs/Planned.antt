@@ -1,10 +1,10 @@
 -- A valid module and a plan that may be carried out on it: what is written for an instruction, and which constant comes for it.
-use Rattle.std.proofs.Common.{◌≡◌, ℕ, suc, ◌+◌, ◌<◌, ◌≤◌, ◌==◌, ◌⊎◌, inl, inr, Bool, true, false, if◌then◌else◌, List, [], ◌∷◌, refl, ap, sym, ◌∙◌, subst, arith, Option, None, Some}
+use Rattle.std.proofs.Common.{◌≡◌, ℕ, ◌<◌, ◌==◌, inl, inr, Bool, true, false, if◌then◌else◌, List, [], ◌∷◌, refl, ap, ◌∙◌, subst, Option, None, Some}
 use Rattle.std.proofs.lemmas.Bool.{cases_lt}
 use Rattle.spirv_model.specs.declared.module.Inst.{Inst}
 use Rattle.spirv_model.specs.declared.module.Words.{Words}
 use Rattle.spirv_model.specs.declared.op.TheConstants as op
-use Rattle.spirv_model.specs.Operands.{word_at, entry_of, class_of, result}
+use Rattle.spirv_model.specs.Operands.{word_at, entry_of, class_of}
 use Rattle.scalar_model.specs.declared.scalar_value.Scalar.{Scalar}
 use Rattle.body_model.specs.Classes.{is_terminator}
 use Rattle.valid_model.specs.Definitions.{inst_at}
@@ -12,7 +12,6 @@ use Rattle.check_model.specs.Intervals.{intervals_of}
 use Rattle.check_model.specs.Validity.{IsValidList}
 use Rattle.stage_model.specs.Start.{of_scalar}
 use Rattle.typed_model.proofs.BlockParts.{clash}
-use Rattle.typed_model.proofs.ResultIds.{terminator_result, typed_result_id, defined_id}
 use Rattle.unit_model.specs.ConstantScalars.{chosen_target}
 use Rattle.change_model.specs.declared.fate.Fate.{Fate}
 use Rattle.change_model.specs.declared.fate.Fate.TheVariants.{Dead, Stays, Goes, Picks, Folds, Nulls, Resolves, Skips, Unused}

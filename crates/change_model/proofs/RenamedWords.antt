@@ -13,8 +13,7 @@ use Rattle.spirv_model.specs.declared.table.Entry.{Entry}
 use Rattle.spirv_model.specs.declared.table.Entry.TheVariants.{Skipped, Float, Listed}
 use Rattle.spirv_model.specs.declared.table.Rest.{Rest}
 use Rattle.spirv_model.specs.Operands.{word_at, words_from, entry_of, class_in, class_of, listed_of, kinds_from, kinds_in, kinds, result_place, result_in, result}
-use Rattle.stage_model.specs.Effect.{has_result_class}
-use Rattle.typed_model.proofs.ResultIds.{in_rows, defines}
+use Rattle.typed_model.proofs.ResultIds.{in_rows}
 use Rattle.change_model.specs.Plans.{Plan, renamed_by, pairs_left, kept_at, predecessors_left, block_at}
 use Rattle.change_model.proofs.Settlings.{op_is}
 
