@@ -103,6 +103,10 @@ and_none : (a b : Bool) → b ≡ false → (a && b) ≡ false
 and_none true b is = is
 and_none false b is = refl
 
+pub none_any : (test : ℕ → Bool) (n from : ℕ) → ((at : ℕ) → from ≤ at → at < from + n → test at ≡ false) → list_any test (range_with_len from n) ≡ false
+none_any test zero from none = refl
+none_any test (suc n) from none = or_none (test from) (list_any test (range_with_len (from + 1) n)) (none from (omega arith) (omega arith)) (none_any test n (from + 1) (λ at least less. none at (omega (arith, least)) (omega (arith, less))))
+
 module _ (words : Words) (v : IsValidList words) (zeros : List ℕ) (plan : Plan) (p : IsPlan words v zeros plan) where
   other_target : (place label to : ℕ) → is_among to (targets (inst_at words.insts place)) ≡ true → is_among label (targets (inst_at words.insts place)) ≡ false → is_among label (to ∷ []) ≡ false
   other_target place label to among none = by_test (to == label) refl
@@ -150,10 +154,6 @@ module _ (words : Words) (v : IsValidList words) (zeros : List ℕ) (plan : Plan
       by_test : (b : Bool) → is_dead (plan.fate place) ≡ b → b ≡ false
       by_test true dead = clash (still_names plan words.insts (label_at words.insts place) from) still ((p.labels place low high is).dead dead from)
       by_test false alive = refl
-
-  none_any : (test : ℕ → Bool) (n from : ℕ) → ((at : ℕ) → from ≤ at → at < from + n → test at ≡ false) → list_any test (range_with_len from n) ≡ false
-  none_any test zero from none = refl
-  none_any test (suc n) from none = or_none (test from) (list_any test (range_with_len (from + 1) n)) (none from (omega arith) (omega arith)) (none_any test n (from + 1) (λ at least less. none at (omega (arith, least)) (omega (arith, less))))
 
   pub unnamed_dead : (place : ℕ) → v.derivation.before + 1 < place → place < v.derivation.after → is_label_at words.insts place ≡ true → ((from : ℕ) → from < place → still_names plan words.insts (label_at words.insts place) from ≡ false)
       → is_dead (plan.fate place) ≡ true

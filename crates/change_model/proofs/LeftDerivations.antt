@@ -1,17 +1,15 @@
 -- The list that a plan makes derives, where the code that is made of the function's sequence fits.
 use Rattle.std.proofs.Common.{◌≡◌, ℕ, zero, suc, ◌+◌, ◌-◌, ◌<◌, ◌≤◌, ◌⊎◌, inl, inr, Bool, true, false, ◌==◌, nat_lt, if◌then◌else◌, List, [], ◌∷◌, ◌++◌, length, take, drop, map, append_assoc, length-append, refl, ap, sym, ◌∙◌, subst, arith, Option, None, Some}
-use Rattle.std.specs.Prelude.{All, IsTrue, slice_get}
+use Rattle.std.specs.Prelude.{All, slice_get}
 use Rattle.std.specs.List.{flat_map, range_with_len}
 use Rattle.std.proofs.lemmas.Bool.{cases_lt, eqb-true}
 use Rattle.std.proofs.lemmas.Bool.Decides.{nat_tests}
 use Rattle.std.proofs.lemmas.List.{drop_at, take_at, length-take-le}
-use Rattle.std.proofs.lemmas.List.Elements.{All-nil, All-cons, All-append, All-same}
+use Rattle.std.proofs.lemmas.List.Elements.{All-append, All-same}
 use Rattle.std.proofs.lemmas.Option.{get_or_from_slice_get}
 use Rattle.spirv_model.specs.declared.module.Inst.{Inst}
 use Rattle.spirv_model.specs.declared.module.Words.{Words}
 use Rattle.spirv_model.specs.declared.op.TheConstants as op
-use Rattle.spirv_model.specs.Operands.{word_at, entry_of, class_of}
-use Rattle.body_model.specs.Classes.{is_module_level}
 use Rattle.body_model.specs.Scope.{main}
 use Rattle.body_model.specs.Switches.{repeat}
 use Rattle.body_model.specs.Grammar.{IsOp, Begins, Derives}
@@ -25,18 +23,15 @@ use Rattle.valid_model.specs.Definitions.{inst_at, no_instruction}
 use Rattle.check_model.specs.Intervals.{Interval, interval, around, inside, intervals_of}
 use Rattle.check_model.specs.Validity.{IsValidList}
 use Rattle.check_model.proofs.CodeIntervals.{inside_code, inside_is}
-use Rattle.stage_model.specs.Value.{Value, Truth, Word}
-use Rattle.change_model.specs.declared.fate.Fate.{Fate}
-use Rattle.change_model.specs.declared.fate.Fate.TheVariants as fate
-use Rattle.change_model.specs.Constants.{scalar_constant}
 use Rattle.change_model.specs.Folding.{function_at}
-use Rattle.change_model.specs.Plans.{Plan, listed, constant_as, constant_at, kept_at, later_places, written_at, changed}
+use Rattle.change_model.specs.Plans.{Plan, kept_at, written_at, changed}
 use Rattle.change_model.specs.PlanRules.{IsPlan, intervals_left, remains}
 use Rattle.change_model.proofs.ChangedPlaces.{new_constants, written_before, place_left, length_left, next_left, kept_there}
 use Rattle.change_model.proofs.LeftCode.{fits_any}
 use Rattle.change_model.proofs.LeftFates.{kept_op, written_stays}
 use Rattle.change_model.proofs.LeftIntervals.{moved}
 use Rattle.change_model.proofs.LeftLasts.{nothing_behind}
+use Rattle.change_model.proofs.LeftLevels.{IsLevel, constants_level}
 use Rattle.change_model.proofs.LeftScopes.{written, Onward, code_behind, printed_behind, inside_behind, Made}
 use Rattle.change_model.proofs.LeftWritten.{written_split, written_one, written_places}
 use Rattle.change_model.proofs.MovedUp.{function_is}
@@ -51,44 +46,6 @@ pub record LeftDerivation (plan : Plan) (insts : List Inst) (d : Derives insts) 
 -- no code stands behind the function's sequence
 abbrev pub nowhere : Onward
 nowhere label = None
-
--- ---- the module's level
-
-abbrev pub IsLevel : Inst → Type 0
-IsLevel inst = IsTrue (is_module_level inst.op)
-
-record Levels : Type 0 where
-  truth : is_module_level op.CONSTANT_TRUE ≡ true
-  untruth : is_module_level op.CONSTANT_FALSE ≡ true
-  number : is_module_level op.CONSTANT ≡ true
-  null : is_module_level op.CONSTANT_NULL ≡ true
-
-levels : Levels
-unfolding class_of entry_of
-levels = record { truth = refl; untruth = refl; number = refl; null = refl }
-
-scalar_level : (type id : ℕ) (value : Option Value) → All IsLevel (listed (scalar_constant type id value))
-scalar_level type id (Some (Truth true)) = All-cons IsLevel _ [] levels.truth (All-nil IsLevel)
-scalar_level type id (Some (Truth false)) = All-cons IsLevel _ [] levels.untruth (All-nil IsLevel)
-scalar_level type id (Some (Word word)) = All-cons IsLevel _ [] levels.number (All-nil IsLevel)
-scalar_level type id other = All-nil IsLevel
-
-constant_level : (inst : Inst) (what : Fate) → All IsLevel (constant_as inst what)
-constant_level inst (fate.Folds scalar) = scalar_level (word_at 0 inst) (word_at 1 inst) _
-constant_level inst fate.Nulls = All-cons IsLevel _ [] levels.null (All-nil IsLevel)
-constant_level inst other = All-nil IsLevel
-
-pub level_at : (plan : Plan) (insts : List Inst) (place : ℕ) → All IsLevel (constant_at plan insts place)
-unfolding constant_at
-level_at plan insts place = constant_level (inst_at insts place) (plan.fate place)
-
-all_level : (plan : Plan) (insts : List Inst) (places : List ℕ) → All IsLevel (flat_map (constant_at plan insts) places)
-all_level plan insts [] = All-nil IsLevel
-all_level plan insts (place ∷ places) = All-append IsLevel (constant_at plan insts place) (flat_map (constant_at plan insts) places) (level_at plan insts place) (all_level plan insts places)
-
-constants_level : (plan : Plan) (insts : List Inst) → All IsLevel (new_constants plan insts)
-unfolding new_constants
-constants_level plan insts = all_level plan insts (later_places insts)
 
 -- ---- the parts of the new list
 
@@ -140,7 +97,7 @@ module _ (words : Words) (v : IsValidList words) (zeros : List ℕ) (plan : Plan
   abbrev d : Derives insts
   d = v.derivation
 
-  new : List Inst
+  abbrev new : List Inst
   new = changed plan insts
 
   within : d.before < length insts
@@ -165,13 +122,13 @@ module _ (words : Words) (v : IsValidList words) (zeros : List ℕ) (plan : Plan
       omega (arith, n, one, e)
 
   -- up to OpFunction
-  front : List Inst
+  abbrev front : List Inst
   front = (take (function_at insts) insts ++ new_constants plan insts) ++ written plan insts d.before (d.before + 1)
 
   ordered : d.before + 1 ≤ d.after
   ordered = let f = forward insts d.sequence in let w = f.forward in omega (arith, w)
 
-  behind : List Inst
+  abbrev behind : List Inst
   behind = written plan insts d.after (length insts)
 
   whole : new ≡ front ++ (written plan insts (d.before + 1) d.after ++ behind)
@@ -200,8 +157,8 @@ module _ (words : Words) (v : IsValidList words) (zeros : List ℕ) (plan : Plan
       let g = ap (place_left plan insts) function_low in
       omega (arith, a, b, c, one, e, g)
 
-  level_there : take (place_left plan insts d.before) new ≡ take (function_at insts) insts ++ new_constants plan insts
-  level_there =
+  level_same : take (place_left plan insts d.before) new ≡ take (function_at insts) insts ++ new_constants plan insts
+  level_same =
       let F = take (function_at insts) insts in
       let C = new_constants plan insts in
       let w = within in
@@ -219,7 +176,7 @@ module _ (words : Words) (v : IsValidList words) (zeros : List ℕ) (plan : Plan
 
   begins_there : Begins new (place_left plan insts d.before)
   begins_there = record {
-    module_level = All-same IsLevel (take (place_left plan insts d.before) new) (take (function_at insts) insts ++ new_constants plan insts) level_there
+    module_level = All-same IsLevel (take (place_left plan insts d.before) new) (take (function_at insts) insts ++ new_constants plan insts) level_same
         (All-append IsLevel (take (function_at insts) insts) (new_constants plan insts)
         (subst (λ (n : ℕ). All IsLevel (take n insts)) (sym function_low) d.begins.module_level) (constants_level plan insts));
     function = function_there;
@@ -296,6 +253,7 @@ module _ (words : Words) (v : IsValidList words) (zeros : List ℕ) (plan : Plan
 
     -- it is one of the list's, and its intervals are those that are left
     pub derived : remains plan insts (interval (d.before + 1) d.after) ≡ true → LeftDerivation plan insts d
+    unfolding new_derives
     derived stays = record {
       derivation = new_derives;
       before = refl;

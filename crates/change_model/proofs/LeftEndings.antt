@@ -43,11 +43,11 @@ use Rattle.change_model.proofs.MovedUp.{function_is}
 no_some : {Q : Type 0} (label : ℕ) (found : Option Code) → found ≡ None → found ≢ None → Q
 no_some label found none some = absurd (some none)
 
-branch_targets : (inst : Inst) → inst.op ≡ op.BRANCH → targets inst ≡ word_at 0 inst ∷ []
+pub branch_targets : (inst : Inst) → inst.op ≡ op.BRANCH → targets inst ≡ word_at 0 inst ∷ []
 unfolding targets_by
 branch_targets inst is = ap (λ (o : ℕ). targets_by o inst.words) is
 
-among_itself : (label : ℕ) (labels : List ℕ) → labels ≡ label ∷ [] → is_among label labels ≡ true
+pub among_itself : (label : ℕ) (labels : List ℕ) → labels ≡ label ∷ [] → is_among label labels ≡ true
 among_itself label labels is = ap (is_among label) is ∙ ap (λ (b : Bool). b || false) (eq-eqb label label refl)
 
 -- whatever leads out of a block but its last part, there is nothing
@@ -70,10 +70,10 @@ pub record Branches (plan : Plan) (insts : List Inst) (place past label : ℕ) :
   pub leads : (at : ℕ) × (place ≤ at) × (at < past) × (leads_from plan insts label at ≡ true)
   pub only : (other : ℕ) → (label ≡ other → ⊥) → Unled plan insts place past other
 
-at_one : (plan : Plan) (insts : List Inst) (place label : ℕ) → leads_from plan insts label place ≡ false → Unled plan insts place (place + 1) label
+pub at_one : (plan : Plan) (insts : List Inst) (place label : ℕ) → leads_from plan insts label place ≡ false → Unled plan insts place (place + 1) label
 at_one plan insts place label is at least less = let same : at ≡ place = omega (arith, least, less) in ap (leads_from plan insts label) same ∙ is
 
-differ : (label other : ℕ) → (label ≡ other → ⊥) → label == other ≡ false
+pub differ : (label other : ℕ) → (label ≡ other → ⊥) → label == other ≡ false
 differ label other isnt = by_test (label == other) refl
   where
     by_test : (b : Bool) → label == other ≡ b → b ≡ false
@@ -171,11 +171,11 @@ module _ (words : Words) (v : IsValidList words) (zeros : List ℕ) (plan : Plan
         end = Some label;
         prints = nothing_behind block ∙ ap (λ (o : Option Code). block ++ printed_behind o) (sym none);
         inner = sym (nothing_inside None none);
-        only = λ other stands quiet differs. only_there other (elsewhere other differs);
+        only = λ other stands quiet differs. only_there other (elsewhere other differs.0);
       }
 
       -- to code behind
-      onward_made : (found : Option Code) → onward label ≡ found → found ≢ None → Result
+      pub onward_made : (found : Option Code) → onward label ≡ found → found ≢ None → Result
       onward_made None none some = absurd (some refl)
       onward_made (Some code) is some =
           let c = cont.fits label code is in
@@ -185,7 +185,7 @@ module _ (words : Words) (v : IsValidList words) (zeros : List ℕ) (plan : Plan
             end = Some label;
             prints = ap (λ (o : Option Code). block ++ printed_behind o) (sym is);
             inner = ap (inside_code code) new_places ∙ sym (nothing_inside (Some code) is);
-            only = λ other stands quiet differs. only_there other (elsewhere other differs);
+            only = λ other stands quiet differs. only_there other (elsewhere other differs.0);
           }
 
       -- by OpBranch, wherever the old sequence could be left to

@@ -135,3 +135,37 @@ pub goes_so : (scope : Scope) (header : ℕ) (inst : Inst) (behind : List Inst) 
     → begins_with label behind ≡ true → last_part scope header inst behind place ≡ GoesOn (place + 1)
 unfolding last_part
 goes_so scope header inst behind place label is names free to begins = rw is (rw names (rw free (rw to (rw begins refl))))
+
+pub returns_so : (scope : Scope) (header : ℕ) (inst : Inst) (behind : List Inst) (place : ℕ) → ((inst.op == RETURN) || (inst.op == UNREACHABLE)) ≡ true → scope.may_end ≡ true
+    → last_part scope header inst behind place ≡ Ends (record { end = Return; next = None; after = place + 1 })
+unfolding last_part
+returns_so scope header inst behind place is may = by_tests (inst.op == RETURN) (inst.op == UNREACHABLE) refl refl is
+  where
+    by_tests : (a b : Bool) → inst.op == RETURN ≡ a → inst.op == UNREACHABLE ≡ b → (a || b) ≡ true → last_part scope header inst behind place ≡ Ends (record { end = Return; next = None; after = place + 1 })
+    by_tests true b first second some = rw (op_is inst.op RETURN first) (rw may refl)
+    by_tests false true first second some = rw (op_is inst.op UNREACHABLE second) (rw may refl)
+    by_tests false false first second some = cc
+
+pub kills_so : (scope : Scope) (header : ℕ) (inst : Inst) (behind : List Inst) (place : ℕ) → inst.op ≡ KILL → scope.may_end ≡ true
+    → last_part scope header inst behind place ≡ Ends (record { end = Kill; next = None; after = place + 1 })
+unfolding last_part
+kills_so scope header inst behind place is may = rw is (rw may refl)
+
+self : (n : ℕ) → n == n ≡ true
+self n = grind (arith, nat_tests)
+
+other_way : (a b : ℕ) → a == b ≡ false → b == a ≡ false
+other_way a b isnt = grind (arith, nat_tests)
+
+pub tests_true_so : (scope : Scope) (header : ℕ) (inst : Inst) (behind : List Inst) (place cond on_true on_false : ℕ) → inst.op ≡ BRANCH_CONDITIONAL → slice_index inst.words 0 ≡ cond → slice_index inst.words 1 ≡ on_true
+    → slice_index inst.words 2 ≡ on_false → scope.test ≡ Some on_false → on_true == on_false ≡ false
+    → last_part scope header inst behind place ≡ Ends (record { end = Test cond true; next = Some on_true; after = place + 1 })
+unfolding last_part
+tests_true_so scope header inst behind place cond on_true on_false is zero one two test differ = rw is (rw zero (rw one (rw two (rw test (rw differ (rw (self on_false) refl))))))
+
+pub tests_false_so : (scope : Scope) (header : ℕ) (inst : Inst) (behind : List Inst) (place cond on_true on_false : ℕ) → inst.op ≡ BRANCH_CONDITIONAL → slice_index inst.words 0 ≡ cond → slice_index inst.words 1 ≡ on_true
+    → slice_index inst.words 2 ≡ on_false → scope.test ≡ Some on_true → on_true == on_false ≡ false
+    → last_part scope header inst behind place ≡ Ends (record { end = Test cond false; next = Some on_false; after = place + 1 })
+unfolding last_part
+tests_false_so scope header inst behind place cond on_true on_false is zero one two test differ =
+    rw is (rw zero (rw one (rw two (rw test (rw differ (rw (other_way on_true on_false differ) (rw (self on_true) refl)))))))

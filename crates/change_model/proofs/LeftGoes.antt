@@ -17,7 +17,7 @@ use Rattle.change_model.proofs.LeftEndings.{Branches, only_there, goes_fits, new
 use Rattle.change_model.proofs.LeftIntervals.{moved}
 use Rattle.change_model.proofs.LeftLasts.{Head}
 use Rattle.change_model.proofs.LeftLeads.{dead_nowhere}
-use Rattle.change_model.proofs.LeftScopes.{is_label_at, label_at, written, StandsNot, Quiet, Onward, Unled, IsFree, FitsSo, printed_behind, inside_behind, code_behind, Made}
+use Rattle.change_model.proofs.LeftScopes.{is_label_at, label_at, written, StandsNot, Quiet, Onward, Unled, Elsewhere, IsFree, FitsSo, printed_behind, inside_behind, code_behind, Made}
 use Rattle.change_model.proofs.LeftWritten.{written_split, written_dead, written_places}
 use Rattle.change_model.proofs.MovedUp.{function_is}
 
@@ -43,7 +43,7 @@ module _ (words : Words) (v : IsValidList words) (zeros : List ℕ) (plan : Plan
     most : from ≤ past
     most = let e = h.o.place_is in let m = k.most in omega (arith, e, m)
 
-    goes_only : (other : ℕ) → StandsNot words.insts from to other → Quiet plan words.insts (intervals_of v.derivation) from to other → (r.end ≡ Some other → ⊥) → Unled plan words.insts from to other
+    goes_only : (other : ℕ) → StandsNot words.insts from to other → Quiet plan words.insts (intervals_of v.derivation) from to other → Elsewhere new goal r.end other → Unled plan words.insts from to other
     goes_only other none quiet differs =
         let low : from ≤ start = omega (arith, most, least) in
         unled_both plan words.insts from past to other

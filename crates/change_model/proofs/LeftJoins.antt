@@ -14,7 +14,7 @@ use Rattle.change_model.proofs.ChangedPlaces.{place_left}
 use Rattle.change_model.proofs.LeftGoes.{unled_both, stands_less, quiet_less}
 use Rattle.change_model.proofs.LeftIntervals.{moved}
 use Rattle.change_model.proofs.LeftLeads.{dead_nowhere}
-use Rattle.change_model.proofs.LeftScopes.{is_label_at, label_at, written, StandsNot, Quiet, Onward, Unled, printed_behind, inside_behind, code_behind, Made}
+use Rattle.change_model.proofs.LeftScopes.{is_label_at, label_at, written, StandsNot, Quiet, Onward, Unled, Elsewhere, printed_behind, inside_behind, code_behind, Made}
 use Rattle.change_model.proofs.LeftWritten.{written_split, written_dead, written_places}
 
 -- the code behind, and with this label this code
@@ -87,13 +87,13 @@ module _ (plan : Plan) (insts : List Inst) (intervals : List Interval) (new : Sc
         same_label : (a b : ℕ) → ◌≡◌ {A = Option ℕ} (Some a) (Some b) → a ≡ b
         same_label a b equal = cc
 
-    joined_only : (other : ℕ) → StandsNot insts from to other → Quiet plan insts intervals from to other → (r.end ≡ Some other → ⊥) → Unled plan insts from to other
+    joined_only : (other : ℕ) → StandsNot insts from to other → Quiet plan insts intervals from to other → Elsewhere new goal r.end other → Unled plan insts from to other
     joined_only other none quiet differs =
         let f = further in
         let m = most in
         let w = forward in
         unled_both plan insts from past to other
-        (a.only other (stands_less insts from from to past other (omega arith) (omega (arith, f, m)) none) (quiet_less plan insts intervals from from to past other (omega arith) (omega (arith, f, m)) quiet) (other_end other none))
+        (a.only other (stands_less insts from from to past other (omega arith) (omega (arith, f, m)) none) (quiet_less plan insts intervals from from to past other (omega arith) (omega (arith, f, m)) quiet) (other_end other none, differs.1, differs.2))
         (unled_both plan insts past start to other (λ place behind before. dead_nowhere plan insts place other (dead place behind before))
         (r.only other (stands_less insts from start to to other (omega (arith, w, m)) (omega arith) none) (quiet_less plan insts intervals from start to to other (omega (arith, w, m)) (omega arith) quiet) differs))
 

@@ -22,7 +22,7 @@ use Rattle.change_model.specs.Folding.{function_at}
 use Rattle.change_model.specs.Plans.{Plan, constant_at, kept_at, branch_to, switch_to, written_as, written_at, changed}
 use Rattle.change_model.specs.PlanRules.{IsPlan}
 use Rattle.change_model.proofs.ChangedPlaces.{place_left, level_there, StoodAt, of_level, of_constant, of_function, stood_at}
-use Rattle.change_model.proofs.LeftDerivations.{IsLevel, level_at}
+use Rattle.change_model.proofs.LeftLevels.{IsLevel, level_at}
 use Rattle.change_model.proofs.LeftFates.{kept_op}
 use Rattle.change_model.proofs.LeftNames.{label_named, kept_word}
 use Rattle.change_model.proofs.LeftScopes.{is_label_at, label_at}

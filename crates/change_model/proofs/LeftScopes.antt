@@ -135,6 +135,10 @@ abbrev pub inside_behind : Option Code → ℕ → List Interval
 inside_behind None place = []
 inside_behind (Some code) place = inside_code code place
 
+-- a label to which neither the last block that is left leads nor a condition sequence
+abbrev pub Elsewhere : Scope → (goal end : Option ℕ) → ℕ → Type 0
+Elsewhere new goal end label = (end ≡ Some label → ⊥) × (new.test ≡ Some label → ⊥) × (goal ≡ Some label → ⊥)
+
 -- the code that is made of a sequence, and where its last block that is left leads, if that is out of it
 pub record Made (plan : Plan) (insts : List Inst) (intervals : List Interval) (new : Scope) (goal : Option ℕ) (onward : Onward) (from to : ℕ) (inside : List Interval) : Type 0 where
   pub code : Code
@@ -142,4 +146,4 @@ pub record Made (plan : Plan) (insts : List Inst) (intervals : List Interval) (n
   pub end : Option ℕ
   pub prints : printed code ≡ written plan insts from to ++ printed_behind (code_behind onward end)
   pub inner : inside_code code (place_left plan insts from) ≡ map (moved plan insts) (intervals_left plan insts inside) ++ inside_behind (code_behind onward end) (place_left plan insts to)
-  pub only : (label : ℕ) → StandsNot insts from to label → Quiet plan insts intervals from to label → (end ≡ Some label → ⊥) → Unled plan insts from to label
+  pub only : (label : ℕ) → StandsNot insts from to label → Quiet plan insts intervals from to label → Elsewhere new goal end label → Unled plan insts from to label

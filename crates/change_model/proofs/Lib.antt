@@ -60,3 +60,9 @@ pub mod LeftGoes
 pub mod LeftJoins
 pub mod LeftDerivations
 pub mod LeftLabels
+pub mod LeftStops
+pub mod LeftLevels
+pub mod LeftTests
+pub mod LeftWhole
+pub mod LeftCases
+pub mod LeftGone
