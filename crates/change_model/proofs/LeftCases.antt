@@ -11,7 +11,7 @@ use Rattle.body_model.specs.declared.block_end.BlockEnd.{BlockEnd}
 use Rattle.body_model.specs.declared.block_end.BlockEnd.TheVariants as kind
 use Rattle.body_model.specs.declared.block_end.SequenceEnd.{SequenceEnd}
 use Rattle.body_model.specs.Scope.{Scope, behind_block}
-use Rattle.body_model.specs.Blocks.{begins_with, leads_to_loop, may_have_phis, last_part, block_end}
+use Rattle.body_model.specs.Blocks.{begins_with, exit_to, leads_to_loop, may_have_phis, last_part, block_end}
 use Rattle.body_model.specs.Due.{IsDue}
 use Rattle.body_model.specs.Switches.{is_among}
 use Rattle.body_model.specs.Targets.{targets}
@@ -35,6 +35,7 @@ use Rattle.change_model.proofs.LeftLasts.{Head, last_at, last_here, last_alive}
 use Rattle.change_model.proofs.LeftScopes.{is_label_at, label_at, written, Placed, Unled, Onward, Led, Tests, tested, passed, Suits, IsFree, Apart, keeps_loop, FitsSo, Continues, Made}
 use Rattle.change_model.proofs.LeftStops.{return_made, kill_made}
 use Rattle.change_model.proofs.LeftTargets.{Stands}
+use Rattle.change_model.proofs.LeftWays.{Leaves, IsLast, IsPast, GoesTo, LastWay, by_exit, by_return, by_kill, by_true, by_false, last_way, NextWay, next_way}
 use Rattle.change_model.proofs.LeftTests.{choice_targets, choice_stays, is_test, passed_branch, test_kept}
 
 -- the first block may have the phis that it keeps
@@ -99,27 +100,14 @@ begins_stands insts label place (inst ∷ more) here begins =
     let at = inst_is insts place inst more here in
     record { is_label = ap (λ (i : Inst). i.op == op.LABEL) at ∙ parts.0; own = ap (λ (i : Inst). word_at 0 i) at ∙ eqb-true (slice_index inst.words 0) label parts.1 }
 
--- how a sequence ends, with the label behind it; the place behind a last block; and whether a block goes on
-abbrev Leaves : BlockEnd → Option ℕ → Type 0
-Leaves (kind.Ends last) next = last.next ≡ next
-Leaves other next = ⊥
-
-abbrev IsLast : BlockEnd → ℕ → Type 0
-IsLast (kind.Ends last) place = last.after ≡ place + 1
-IsLast other place = Unit {0}
-
-abbrev GoesTo : BlockEnd → Type 0
-GoesTo (kind.GoesOn after) = Unit {0}
-GoesTo other = ⊥
-
 known : (next goal : Option ℕ) (label : ℕ) → Some label ≡ next → (next ≡ None) ⊎ (next ≡ goal) → goal ≡ Some label
 known next goal label is (inl none) = cc
 known next goal label is (inr same) = sym same ∙ sym is
 
-among_first : (label : ℕ) (rest : List ℕ) → is_among label (label ∷ rest) ≡ true
+pub among_first : (label : ℕ) (rest : List ℕ) → is_among label (label ∷ rest) ≡ true
 among_first label rest = ap (λ (b : Bool). b || is_among label rest) (eq-eqb label label refl)
 
-among_second : (label first : ℕ) → is_among label (first ∷ label ∷ []) ≡ true
+pub among_second : (label first : ℕ) → is_among label (first ∷ label ∷ []) ≡ true
 among_second label first = by_test (first == label) (among_first label [])
   where
     by_test : (b : Bool) → is_among label (label ∷ []) ≡ true → (b || is_among label (label ∷ [])) ≡ true
@@ -135,7 +123,7 @@ apart_from own merge inner other test goal has is (inr same) no_test no_goal equ
 
 module _ (words : Words) (v : IsValidList words) (zeros : List ℕ) (plan : Plan) (p : IsPlan words v zeros plan) where
   -- the first block, in a scope that suits
-  head_of : (old new : Scope) (from to : ℕ) (end : BlockEnd) (onward : Onward) (o : OldBlock words.insts old from end) → v.derivation.before + 1 ≤ from → o.place < v.derivation.after → is_dead (plan.fate from) ≡ false
+  abbrev head_of : (old new : Scope) (from to : ℕ) (end : BlockEnd) (onward : Onward) (o : OldBlock words.insts old from end) → v.derivation.before + 1 ≤ from → o.place < v.derivation.after → is_dead (plan.fate from) ≡ false
       → KeepsPhis plan words.insts from old new → Suits plan words.insts from to old new onward → Head words v plan old new from end
   head_of old new from to end onward o low high alive phis suits = record { o = o; low = low; high = high; alive = alive; first = suits.first; phis = phis end o }
 
@@ -174,31 +162,27 @@ module _ (words : Words) (v : IsValidList words) (zeros : List ℕ) (plan : Plan
 
   -- the last block of a sequence
   last_case : (old : Scope) (from : ℕ) (next : Option ℕ) (end : BlockEnd) (o : OldBlock words.insts old from end) → v.derivation.before + 1 ≤ from → o.place < v.derivation.after → is_dead (plan.fate from) ≡ false
-      → Way old (slice_index o.label.words 0) o.inst o.behind o.place end → Leaves end next → Makes words v plan old next from (o.place + 1) []
-  last_case old from next end o low high alive (exits is free to) leaves new goal onward next_is phis suits apart cont =
+      → LastWay old next o.inst → Makes words v plan old next from (o.place + 1) []
+  last_case old from next end o low high alive (by_exit was is free to) new goal onward known_next phis suits apart cont =
       let h = head_of old new from (o.place + 1) end onward o low high alive phis suits in
       let label = slice_index o.inst.words 0 in
-      branch_made words v zeros plan p old new from end h (o.place + 1) label (kept_branch words v zeros plan p old new from end h label is refl) goal onward suits cont _ free to
-  last_case old from next end o low high alive (returns is may) leaves new goal onward next_is phis suits apart cont =
+      branch_made words v zeros plan p old new from end h (o.place + 1) label (kept_branch words v zeros plan p old new from end h label is refl) goal onward suits cont was free to
+  last_case old from next end o low high alive (by_return is may) new goal onward known_next phis suits apart cont =
       let h = head_of old new from (o.place + 1) end onward o low high alive phis suits in
       return_made words v zeros plan p old new from end h goal onward is (suits.may_end may)
-  last_case old from next end o low high alive (kills is may) leaves new goal onward next_is phis suits apart cont =
+  last_case old from next end o low high alive (by_kill is may) new goal onward known_next phis suits apart cont =
       let h = head_of old new from (o.place + 1) end onward o low high alive phis suits in
       kill_made words v zeros plan p old new from end h goal onward is (suits.may_end may)
-  last_case old from next end o low high alive (tests_true is test differ) leaves new goal onward next_is phis suits apart cont =
+  last_case old from next end o low high alive (by_true is test other leaves) new goal onward known_next phis suits apart cont =
       let h = head_of old new from (o.place + 1) end onward o low high alive phis suits in
-      test_case old new from end h is goal onward suits cont (slice_index o.inst.words 2) (slice_index o.inst.words 1) (λ cond. Test cond true) (inr refl) (inr refl) (inl refl) (known next goal (slice_index o.inst.words 1) leaves next_is)
-      (λ has inst rest place op_is one two. tests_true_so new (label_at words.insts from) inst rest place (slice_index inst.words 0) (slice_index o.inst.words 1) (slice_index o.inst.words 2) op_is refl one two has differ)
+      test_case old new from end h is goal onward suits cont (slice_index o.inst.words 2) (slice_index o.inst.words 1) (λ cond. Test cond true) (inr refl) (inr refl) (inl refl) (known next goal (slice_index o.inst.words 1) leaves known_next)
+      (λ has inst rest place op_is one two. tests_true_so new (label_at words.insts from) inst rest place (slice_index inst.words 0) (slice_index o.inst.words 1) (slice_index o.inst.words 2) op_is refl one two has other)
       (suits.test (slice_index o.inst.words 2) test)
-  last_case old from next end o low high alive (tests_false is test differ) leaves new goal onward next_is phis suits apart cont =
+  last_case old from next end o low high alive (by_false is test other leaves) new goal onward known_next phis suits apart cont =
       let h = head_of old new from (o.place + 1) end onward o low high alive phis suits in
-      test_case old new from end h is goal onward suits cont (slice_index o.inst.words 1) (slice_index o.inst.words 2) (λ cond. Test cond false) (inl refl) (inl refl) (inr refl) (known next goal (slice_index o.inst.words 2) leaves next_is)
-      (λ has inst rest place op_is one two. tests_false_so new (label_at words.insts from) inst rest place (slice_index inst.words 0) (slice_index o.inst.words 1) (slice_index o.inst.words 2) op_is refl one two has differ)
+      test_case old new from end h is goal onward suits cont (slice_index o.inst.words 1) (slice_index o.inst.words 2) (λ cond. Test cond false) (inl refl) (inl refl) (inr refl) (known next goal (slice_index o.inst.words 2) leaves known_next)
+      (λ has inst rest place op_is one two. tests_false_so new (label_at words.insts from) inst rest place (slice_index inst.words 0) (slice_index o.inst.words 1) (slice_index o.inst.words 2) op_is refl one two has other)
       (suits.test (slice_index o.inst.words 1) test)
-  last_case old from next end o low high alive (goes is free to begins) leaves new goal onward next_is phis suits apart cont = absurd leaves
-  last_case old from next end o low high alive (selects is at branch few differ) leaves new goal onward next_is phis suits apart cont = absurd leaves
-  last_case old from next end o low high alive (picks is at switch few differ) leaves new goal onward next_is phis suits apart cont = absurd leaves
-  last_case old from next end o low high alive (loops is may at branch few free) leaves new goal onward next_is phis suits apart cont = absurd leaves
 
   pub ends_case : (old : Scope) (wanted next : Option ℕ) (from to : ℕ) (last : SequenceEnd) → IsDue words.insts wanted from → block_end words.insts old from ≡ kind.Ends last → last.next ≡ next → last.after ≡ to
       → Placed words.insts v.derivation old next from to [] → is_dead (plan.fate from) ≡ false → Makes words v plan old next from to []
@@ -207,49 +191,60 @@ module _ (words : Words) (v : IsValidList words) (zeros : List ℕ) (plan : Plan
       let w = way old (slice_index o.label.words 0) o.inst o.behind o.place (kind.Ends last) o.ends tt in
       let past : o.place + 1 ≡ to = sym (after_is (kind.Ends last) w) ∙ place_is in
       let h = placed.high in
-      subst (λ (n : ℕ). Makes words v plan old next from n []) past (last_case old from next (kind.Ends last) o placed.low (omega (arith, h, past)) alive w label_is)
+      subst (λ (n : ℕ). Makes words v plan old next from n []) past (last_case old from next (kind.Ends last) o placed.low (omega (arith, h, past)) alive (last_way old (slice_index o.label.words 0) o.inst o.behind o.place next (kind.Ends last) w label_is))
     where
       after_is : {header : ℕ} {inst : Inst} {behind : List Inst} {place : ℕ} (end : BlockEnd) → Way old header inst behind place end → IsLast end place
       after_is end (exits is free to) = refl
       after_is end (returns is may) = refl
       after_is end (kills is may) = refl
-      after_is end (tests_true is test differ) = refl
-      after_is end (tests_false is test differ) = refl
+      after_is end (tests_true is test other) = refl
+      after_is end (tests_false is test other) = refl
       after_is end (goes is free to begins) = tt
-      after_is end (selects is at branch few differ) = tt
-      after_is end (picks is at switch few differ) = tt
+      after_is end (selects is at branch few other) = tt
+      after_is end (picks is at switch few other) = tt
       after_is end (loops is may at branch few free) = tt
 
   -- a block that goes on to the next one
-  next_case : (old : Scope) (from to : ℕ) (next : Option ℕ) (inside : List Interval) (end : BlockEnd) (o : OldBlock words.insts old from end) → v.derivation.before + 1 ≤ from → to ≤ v.derivation.after → o.place + 1 < to
-      → is_dead (plan.fate from) ≡ false → Way old (slice_index o.label.words 0) o.inst o.behind o.place end → GoesTo end
+  next_case : (old : Scope) (from to : ℕ) (next : Option ℕ) (inner : List Interval) (end : BlockEnd) (o : OldBlock words.insts old from end) → v.derivation.before + 1 ≤ from → to ≤ v.derivation.after → o.place + 1 < to
+      → is_dead (plan.fate from) ≡ false → NextWay old o.inst o.behind
       → ((new : Scope) → KeepsPhis plan words.insts (o.place + 1) (behind_block old) (behind_block new))
-      → (is_dead (plan.fate (o.place + 1)) ≡ false → Makes words v plan (behind_block old) next (o.place + 1) to inside) → Makes words v plan old next from to inside
-  next_case old from to next inside end o low high more alive (goes is free to_none begins) on phis_behind rest new goal onward next_is phis suits apart cont =
+      → (is_dead (plan.fate (o.place + 1)) ≡ false → Makes words v plan (behind_block old) next (o.place + 1) to inner) → Makes words v plan old next from to inner
+  next_case old from to next inner end o low high more alive w phis_behind rest new goal onward known_next phis suits apart cont =
       let e = o.place_is in
       let h = head_of old new from to end onward o low (omega (arith, high, more)) alive phis suits in
       let label = slice_index o.inst.words 0 in
       let after = o.place + 1 in
-      let k = kept_branch words v zeros plan p old new from end h label is refl in
-      let there = begins_stands words.insts label after o.behind (next_is_behind h) begins in
+      let k = kept_branch words v zeros plan p old new from end h label w.is refl in
+      let there = begins_stands words.insts label after o.behind (next_is words.insts o.place o.inst o.behind (last_at words v zeros plan p old new from end h)) w.begins in
       let less : from < after = omega (arith, e) in
       let l = k.leads in
       let still : still_names plan words.insts (label_at words.insts after) l.0 ≡ true = or_first (leads_from plan words.insts (label_at words.insts after) l.0)
       (stays (plan.fate l.0) && is_among (label_at words.insts after) (merge_labels (inst_at words.insts l.0))) (ap (λ (n : ℕ). leads_from plan words.insts n l.0) there.own ∙ l.3) in
       let lives = named_alive words v zeros plan p after l.0 (omega (arith, low, less)) (omega (arith, high, more)) there.is_label still in
-      let r = rest lives (behind_block new) goal onward next_is (phis_behind new) (suits_behind plan words.insts from after to old new onward (omega (arith, less)) suits)
+      let r = rest lives (behind_block new) goal onward known_next (phis_behind new) (suits_behind plan words.insts from after to old new onward (omega (arith, less)) suits)
       (λ place behind within label. free_behind new (label_at words.insts place) (apart place (omega (arith, less, behind)) within label))
       (continues_behind plan words.insts (intervals_of v.derivation) from after to new goal onward (omega (arith, less)) cont) in
-      goes_made words v zeros plan p old new from end h after after to label goal onward inside inside k (subst (IsFree new) there.own (apart after less more there.is_label)) there.own there.is_label (omega arith) more
+      goes_made words v zeros plan p old new from end h after after to label goal onward inner inner k (subst (IsFree new) there.own (apart after less more there.is_label)) there.own there.is_label (omega arith) more
       (λ place least before. absurd (omega (arith, least, before))) refl r
+
+  pub goes_on_case : (old : Scope) (wanted next : Option ℕ) (from to after : ℕ) (inner : List Interval) → IsDue words.insts wanted from → block_end words.insts old from ≡ kind.GoesOn after → after < to
+      → Placed words.insts v.derivation old next from to inner → is_dead (plan.fate from) ≡ false → ((new : Scope) → KeepsPhis plan words.insts after (behind_block old) (behind_block new))
+      → (is_dead (plan.fate after) ≡ false → Makes words v plan (behind_block old) next after to inner) → Makes words v plan old next from to inner
+  goes_on_case old wanted next from to after inner here is forward placed alive phis rest =
+      let o = old_block words.insts old wanted from (kind.GoesOn after) here is tt in
+      let w = way old (slice_index o.label.words 0) o.inst o.behind o.place (kind.GoesOn after) o.ends tt in
+      let past : after ≡ o.place + 1 = goes_past (kind.GoesOn after) w in
+      next_case old from to next inner (kind.GoesOn after) o placed.low placed.high (subst (λ (n : ℕ). n < to) past forward) alive (next_way old (slice_index o.label.words 0) o.inst o.behind o.place (kind.GoesOn after) w tt)
+      (subst (λ (n : ℕ). (new : Scope) → KeepsPhis plan words.insts n (behind_block old) (behind_block new)) past phis)
+      (subst (λ (n : ℕ). is_dead (plan.fate n) ≡ false → Makes words v plan (behind_block old) next n to inner) past rest)
     where
-      next_is_behind : Head words v plan old new from end → drop (o.place + 1) words.insts ≡ o.behind
-      next_is_behind h = next_is words.insts o.place o.inst o.behind (last_at words v zeros plan p old new from end h)
-  next_case old from to next inside end o low high more alive (exits is free to_exit) on phis_behind rest new goal onward next_is phis suits apart cont = absurd on
-  next_case old from to next inside end o low high more alive (returns is may) on phis_behind rest new goal onward next_is phis suits apart cont = absurd on
-  next_case old from to next inside end o low high more alive (kills is may) on phis_behind rest new goal onward next_is phis suits apart cont = absurd on
-  next_case old from to next inside end o low high more alive (tests_true is test differ) on phis_behind rest new goal onward next_is phis suits apart cont = absurd on
-  next_case old from to next inside end o low high more alive (tests_false is test differ) on phis_behind rest new goal onward next_is phis suits apart cont = absurd on
-  next_case old from to next inside end o low high more alive (selects is at branch few differ) on phis_behind rest new goal onward next_is phis suits apart cont = absurd on
-  next_case old from to next inside end o low high more alive (picks is at switch few differ) on phis_behind rest new goal onward next_is phis suits apart cont = absurd on
-  next_case old from to next inside end o low high more alive (loops is may at branch few free) on phis_behind rest new goal onward next_is phis suits apart cont = absurd on
+      goes_past : {header : ℕ} {inst : Inst} {behind : List Inst} {place : ℕ} (end : BlockEnd) → Way old header inst behind place end → IsPast end place
+      goes_past end (goes is free to begins) = refl
+      goes_past end (exits is free to) = tt
+      goes_past end (returns is may) = tt
+      goes_past end (kills is may) = tt
+      goes_past end (tests_true is test other) = tt
+      goes_past end (tests_false is test other) = tt
+      goes_past end (selects is at branch few other) = tt
+      goes_past end (picks is at switch few other) = tt
+      goes_past end (loops is may at branch few free) = tt

@@ -191,7 +191,7 @@ module _ (words : Words) (v : IsValidList words) (zeros : List ℕ) (plan : Plan
   -- the function's sequence, where it is made
   module _ (differ : repeat (labels new) ≡ false) (m : Made plan insts (intervals_of d) main None nowhere (d.before + 1) d.after (inside d.sequence)) where
     own_code : Fits main None m.code None
-    own_code = fits_any (subst (Fits main _ m.code) (elim m.fits.next_is [ | inl none ↦ none | inr none ↦ none ]) m.fits.fits)
+    own_code = fits_any (subst (Fits main _ m.code) (elim m.fits.next_is [ inl none ↦ none | inr none ↦ none ]) m.fits.fits)
 
     prints_so : printed m.code ≡ written plan insts (d.before + 1) d.after
     prints_so =
@@ -203,13 +203,13 @@ module _ (words : Words) (v : IsValidList words) (zeros : List ℕ) (plan : Plan
       is = ap (λ (n : ℕ). drop n new) (sym front_long) ∙ ap (drop (length front)) whole ∙ drop_at front (written plan insts (d.before + 1) d.after ++ behind) (length front) refl
           ∙ ap (λ (l : List Inst). l ++ behind) (sym prints_so);
       to_is = (
-        let o = ordered in
-        let f = function_low in
-        let w = written_places plan insts (d.before + 1) d.after o (omega (arith, f)) in
-        let e = first_is in
-        let l = ap length prints_so in
-        omega (arith, w, e, l)
-      );
+          let o = ordered in
+          let f = function_low in
+          let w = written_places plan insts (d.before + 1) d.after o (omega (arith, f)) in
+          let e = first_is in
+          let l = ap length prints_so in
+          omega (arith, w, e, l)
+          );
     }
 
     own : IsSequence new main None (place_left plan insts d.before + 1) (place_left plan insts d.after) None m.code

@@ -1,5 +1,5 @@
 -- The last part of a block: what it is by how the block ends, and how a block with such a last part ends.
-use Rattle.std.proofs.Common.{◌≡◌, ℕ, ◌+◌, Bool, true, false, not, nat_le, ◌==◌, ◌||◌, ◌&&◌, if◌then◌else◌, List, [], ◌∷◌, slice_index, refl, ap, sym, ◌∙◌, subst, arith, Option, None, Some}
+use Rattle.std.proofs.Common.{◌≡◌, ℕ, ◌+◌, ◌≤◌, Bool, true, false, not, nat_le, ◌==◌, ◌||◌, ◌&&◌, if◌then◌else◌, List, [], ◌∷◌, slice_index, refl, ap, sym, ◌∙◌, subst, arith, Option, None, Some}
 use Rattle.std.proofs.lemmas.Bool.Decides.{nat_tests}
 use Rattle.limits.specs.declared.TheConstants.{NESTING}
 use Rattle.spirv_model.specs.declared.module.Inst.{Inst}
@@ -169,3 +169,13 @@ pub tests_false_so : (scope : Scope) (header : ℕ) (inst : Inst) (behind : List
 unfolding last_part
 tests_false_so scope header inst behind place cond on_true on_false is zero one two test differ =
     rw is (rw zero (rw one (rw two (rw test (rw differ (rw (other_way on_true on_false differ) (rw (self on_true) refl)))))))
+
+deep_enough : (old new : ℕ) → new ≤ old → nat_le NESTING old ≡ false → nat_le NESTING new ≡ false
+deep_enough old new less few = grind (arith, nat_tests)
+
+pub selects_so : (scope : Scope) (header : ℕ) (inst last : Inst) (rest : List Inst) (place depth merge on_true on_false : ℕ) → inst.op ≡ SELECTION_MERGE → slice_index inst.words 0 ≡ merge → last.op ≡ BRANCH_CONDITIONAL
+    → slice_index last.words 1 ≡ on_true → slice_index last.words 2 ≡ on_false → scope.depth ≤ depth → nat_le NESTING depth ≡ false → ((on_true == on_false) && not (on_true == merge)) ≡ false
+    → last_part scope header inst (last ∷ rest) place ≡ Selects (record { cond = slice_index last.words 0; merge = merge; on_true = on_true; on_false = on_false; after = place + 2 })
+unfolding last_part
+selects_so scope header inst last rest place depth merge on_true on_false is names branch one two less few differ =
+    rw is (rw names (rw branch (rw one (rw two (rw (deep_enough depth scope.depth less few) (rw differ refl))))))

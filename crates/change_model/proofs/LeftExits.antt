@@ -58,7 +58,7 @@ some_exit false false false rest (inr (inr (inr some))) = some
 
 some_loop_exit : (known : Option LoopExits) (exits : LoopExits) (label : ℕ) → known ≡ Some exits → (exits.merge ≡ label) ⊎ (exits.next ≡ label) → (end : End) × (loop_exit_to known label ≡ Some end)
 some_loop_exit known exits label has one =
-    let found = by_tests (exits.merge == label) (exits.next == label) (elim one [ | inl is ↦ inl (eq-eqb exits.merge label is) | inr is ↦ inr (eq-eqb exits.next label is) ]) in
+    let found = by_tests (exits.merge == label) (exits.next == label) (elim one [ inl is ↦ inl (eq-eqb exits.merge label is) | inr is ↦ inr (eq-eqb exits.next label is) ]) in
     (found.0, ap (λ (e : Option LoopExits). loop_exit_to e label) has ∙ found.1)
   where
     by_tests : (a b : Bool) → (a ≡ true) ⊎ (b ≡ true) → (end : End) × ((if a then Some Break else if b then Some Continue else None) ≡ Some end)

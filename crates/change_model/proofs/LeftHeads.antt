@@ -121,6 +121,6 @@ module _ (words : Words) (v : IsValidList words) (zeros : List ℕ) (plan : Plan
         let leads = thinned_leads o.front ys inst behind thin o.inner isnt in
         ap (λ (l : List Inst). block_from new (l ++ inst ∷ behind) 0) all
         ∙ thinned scope new (slice_index o.label.words 0) (slice_index new_label.words 0) (may_have_phis scope.phis (leads_to_loop (o.front ++ o.inst ∷ o.behind))) scope.first
-            (may_have_phis new.phis (leads_to_loop (ys ++ inst ∷ behind))) new.first o.front ys inst (o.inst ∷ o.behind) behind (from + 1) (0 + 1) (length (written plan insts from o.place)) thin o.inner
-            (λ may has. ap (may_have_phis new.phis) leads ∙ phis may has) first o.whole isnt (let long = ap length all in omega (arith, long))
+        (may_have_phis new.phis (leads_to_loop (ys ++ inst ∷ behind))) new.first o.front ys inst (o.inst ∷ o.behind) behind (from + 1) (0 + 1) (length (written plan insts from o.place)) thin o.inner
+        (λ may has. ap (may_have_phis new.phis) leads ∙ phis may has) first o.whole isnt (let long = ap length all in omega (arith, long))
         ∙ ap (λ (n : ℕ). last_part new n inst behind (length (written plan insts from o.place))) (label_word low high)

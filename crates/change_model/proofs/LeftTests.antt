@@ -40,12 +40,12 @@ use Rattle.change_model.proofs.LeftScopes.{is_label_at, label_at, written, Onwar
 use Rattle.change_model.proofs.LeftTargets.{target_named}
 use Rattle.change_model.proofs.LeftWritten.{written_one}
 
-choice_targets : (inst : Inst) → inst.op ≡ op.BRANCH_CONDITIONAL → targets inst ≡ word_at 1 inst ∷ word_at 2 inst ∷ []
+pub choice_targets : (inst : Inst) → inst.op ≡ op.BRANCH_CONDITIONAL → targets inst ≡ word_at 1 inst ∷ word_at 2 inst ∷ []
 unfolding targets_by
 choice_targets inst is = ap (λ (o : ℕ). targets_by o inst.words) is
 
 -- a branch that isn't dead and has more than one way stays
-choice_stays : (inst : Inst) (what : Fate) → inst.op ≡ op.BRANCH_CONDITIONAL → Outer inst what → is_dead what ≡ false → goes what ≡ false → what ≡ fate.Stays
+pub choice_stays : (inst : Inst) (what : Fate) → inst.op ≡ op.BRANCH_CONDITIONAL → Outer inst what → is_dead what ≡ false → goes what ≡ false → what ≡ fate.Stays
 choice_stays inst fate.Dead is o alive ways = cc
 choice_stays inst fate.Stays is o alive ways = refl
 choice_stays inst (fate.Goes to) is o alive ways = cc
@@ -57,7 +57,7 @@ choice_stays inst fate.Unused is o alive ways = elim o [ ]
 choice_stays inst fate.Skips is (skips (inl merge)) alive ways = clash (inst.op == op.SELECTION_MERGE) (ap (λ (o : ℕ). o == op.SELECTION_MERGE) merge) (ap (λ (o : ℕ). o == op.SELECTION_MERGE) is)
 choice_stays inst fate.Skips is (skips (inr merge)) alive ways = clash (inst.op == op.LOOP_MERGE) (ap (λ (o : ℕ). o == op.LOOP_MERGE) merge) (ap (λ (o : ℕ). o == op.LOOP_MERGE) is)
 
-no_selection : (opcode : ℕ) → is_inner opcode ≡ true → opcode == op.SELECTION_MERGE ≡ false
+pub no_selection : (opcode : ℕ) → is_inner opcode ≡ true → opcode == op.SELECTION_MERGE ≡ false
 no_selection opcode inner = by_test (opcode == op.SELECTION_MERGE) refl
   where
     by_test : (b : Bool) → opcode == op.SELECTION_MERGE ≡ b → b ≡ false
@@ -132,7 +132,7 @@ module _ (words : Words) (v : IsValidList words) (zeros : List ℕ) (plan : Plan
     named label among = target_named words v zeros plan p h.o.place label low h.high (ap is_terminator choice ∙ ends_branch_conditional) among
 
     -- where the new scope has the test: to the merge block with one label, and on with the other
-    test_kept : (inner : ℕ) (how : ℕ → End) → plan.fate h.o.place ≡ fate.Stays → goal ≡ Some inner
+    pub test_kept : (inner : ℕ) (how : ℕ → End) → plan.fate h.o.place ≡ fate.Stays → goal ≡ Some inner
         → is_among (word_at 1 h.o.inst) (targets (inst_at words.insts h.o.place)) ≡ true → is_among (word_at 2 h.o.inst) (targets (inst_at words.insts h.o.place)) ≡ true
         → ((inst : Inst) (rest : List Inst) (place : ℕ) → inst.op ≡ op.BRANCH_CONDITIONAL → slice_index inst.words 1 ≡ word_at 1 h.o.inst → slice_index inst.words 2 ≡ word_at 2 h.o.inst
         → last_part new (label_at words.insts from) inst rest place ≡ way.Ends (record { end = how (slice_index inst.words 0); next = Some inner; after = place + 1 }))

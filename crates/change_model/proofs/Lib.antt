@@ -66,3 +66,5 @@ pub mod LeftTests
 pub mod LeftWhole
 pub mod LeftCases
 pub mod LeftGone
+pub mod LeftSelects
+pub mod LeftWays
