@@ -1,0 +1,40 @@
+-- A step of the machine by what its instruction does.
+use Rattle.std.proofs.Common.{◌≡◌, ℕ, refl, ap, ◌∙◌, List, Option, Some}
+use Rattle.std.specs.Prelude.{slice_get}
+use Rattle.std.specs.Option.{option_and_then}
+use Rattle.spirv_model.specs.declared.module.Inst.{Inst}
+use Rattle.spirv_model.specs.declared.module.Words.{Words}
+use Rattle.valid_model.specs.Definitions.{inst_at}
+use Rattle.check_model.specs.Validity.{IsValidList}
+use Rattle.stage_model.specs.Program.{Program, program_of}
+use Rattle.stage_model.specs.Machine.{State, Flow, read_from, after_effect, done, Machine, Step, GoesOn, led, step}
+use Rattle.typed_model.specs.Running.{IsRunning}
+use Rattle.typed_model.proofs.LabelsBefore.{stands_there}
+use Rattle.typed_model.proofs.InstructionsRun.{Does}
+use Rattle.typed_model.proofs.RunningDoes.{here_does}
+use Rattle.typed_model.proofs.RunningGoes.{running_goes}
+use Rattle.typed_model.proofs.RunningSteps.{same_insts}
+use Rattle.typed_model.proofs.StepsDone.{done_by}
+
+pub step_is : (program : Program) (m : Machine) (inst : Inst) (led_by : Flow × State) → slice_get program.insts m.place ≡ Some inst → done program inst m.state ≡ Some led_by → step program m ≡ led program m.place led_by
+unfolding step
+step_is program m inst led_by here does =
+    ap (λ (o : Option Inst). option_and_then (led program m.place) (option_and_then (λ (i : Inst). done program i m.state) o)) here ∙ ap (option_and_then (led program m.place)) does
+
+same_step : (found : Option Step) (a b : Step) → found ≡ Some a → found ≡ Some b → a ≡ b
+same_step found a b is also = cc
+
+-- a machine that goes on is running still
+pub still_running : (words : Words) (v : IsValidList words) (n next : Machine) → IsRunning words.insts v.derivation n → step (program_of words.insts) n ≡ Some (GoesOn next) → IsRunning words.insts v.derivation next
+still_running words v n next r is =
+    let g = running_goes words v n r in g.on next (same_step (step (program_of words.insts) n) g.to (GoesOn next) g.is is)
+
+-- the step of a running machine
+pub running_step : (words : Words) (v : IsValidList words) (n : Machine) (r : IsRunning words.insts v.derivation n)
+    → step (program_of words.insts) n ≡ led (program_of words.insts) n.place (after_effect (inst_at words.insts n.place) n.state (here_does words v n r).runs.effect)
+running_step words v n r =
+    let q = program_of words.insts in
+    let inst = inst_at words.insts n.place in
+    let d = here_does words v n r in
+    step_is q n inst (after_effect inst n.state d.runs.effect) (ap (λ (i : List Inst). slice_get i n.place) (same_insts words.insts) ∙ stands_there words.insts v.derivation n.place r.low r.high)
+    (done_by words.insts n.state inst (read_from n.state inst.op) refl d)
