@@ -59,3 +59,9 @@ pub mod PlanRunsNulls
 pub mod PlanRunsKept
 pub mod PlanRunsStays
 pub mod PlanRunsStep
+pub mod PlanRunsStaysPhi
+pub mod PlanRunsStaysLabel
+pub mod PlanRunsStaysMerge
+pub mod PlanRunsStaysEnd
+pub mod PlanRunsKeep
+pub mod EffectsAlike

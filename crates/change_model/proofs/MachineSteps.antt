@@ -1,13 +1,15 @@
 -- A step of the machine by what its instruction does.
 use Rattle.std.proofs.Common.{◌≡◌, ℕ, refl, ap, ◌∙◌, List, Option, Some}
 use Rattle.std.specs.Prelude.{slice_get}
-use Rattle.std.specs.Option.{option_and_then}
+use Rattle.std.specs.Option.{option_map, option_and_then}
 use Rattle.spirv_model.specs.declared.module.Inst.{Inst}
 use Rattle.spirv_model.specs.declared.module.Words.{Words}
 use Rattle.valid_model.specs.Definitions.{inst_at}
 use Rattle.check_model.specs.Validity.{IsValidList}
 use Rattle.stage_model.specs.Program.{Program, program_of}
-use Rattle.stage_model.specs.Machine.{State, Flow, read_from, after_effect, done, Machine, Step, GoesOn, led, step}
+use Rattle.stage_model.specs.Value.{Value}
+use Rattle.stage_model.specs.Effect.{Effect, effect_of}
+use Rattle.stage_model.specs.Machine.{State, Flow, read_from, read_values, after_effect, done, Machine, Step, GoesOn, led, step}
 use Rattle.typed_model.specs.Running.{IsRunning}
 use Rattle.typed_model.proofs.LabelsBefore.{stands_there}
 use Rattle.typed_model.proofs.InstructionsRun.{Does}
@@ -38,3 +40,9 @@ running_step words v n r =
     let d = here_does words v n r in
     step_is q n inst (after_effect inst n.state d.runs.effect) (ap (λ (i : List Inst). slice_get i n.place) (same_insts words.insts) ∙ stands_there words.insts v.derivation n.place r.low r.high)
     (done_by words.insts n.state inst (read_from n.state inst.op) refl d)
+
+-- what an instruction does by the values that it reads
+pub done_by_reads : (program : Program) (inst : Inst) (state : State) (read : List Value) (effect : Effect) → read_values inst state ≡ Some read → effect_of program state.memory inst read ≡ Some effect → done program inst state ≡ Some (after_effect inst state effect)
+unfolding done
+done_by_reads program inst state read effect reads is =
+    ap (λ (o : Option (List Value)). option_map (after_effect inst state) (option_and_then (effect_of program state.memory inst) o)) reads ∙ ap (option_map (after_effect inst state)) is

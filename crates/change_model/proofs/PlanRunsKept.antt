@@ -33,7 +33,7 @@ use Rattle.change_model.proofs.PlanRuns.{IsSeen, is_unused_at, is_unused_fate, i
 use Rattle.change_model.proofs.PlanRunsBehind.{stepped}
 use Rattle.change_model.proofs.PlanRunsJumps.{written_there}
 use Rattle.change_model.proofs.PlanRunsNames.{in_function, fits_as, written_by, place_on, own_name, phi_result}
-use Rattle.change_model.proofs.PlanRunsPassed.{effect_here}
+use Rattle.change_model.proofs.PlanRunsPassed.{effect_here, IsUnseen, agree_unseen}
 use Rattle.change_model.proofs.PlanRunsSteady.{steady_on}
 use Rattle.change_model.proofs.PlanRunsValues.{own_value, other_value, own_defined, result_at, agree_given}
 
@@ -188,5 +188,52 @@ kept_given words v zeros plan fixed p m n b value gives does' =
           (λ e. not_fixed words v plan n.place (let low = running.low in omega (arith, low)) b.stays
           (ap (is_fixed_at plan d.before) (sym (same_some (definition insts id) at n.place there (ap (definition insts) e ∙ defined))) ∙ fixed_there))
           ∙ r.fixed_now id at there fixed_there;
+      few = let f = r.alike.steps in omega (arith, f);
+    })
+
+-- neither does anything
+pub kept_silent : (words : Words) (v : IsValidList words) (zeros : List ℕ) (plan : Plan) (fixed : Values) (p : Program) (m n : Machine) (b : Both words v zeros plan fixed p m n)
+    → effect_here words v zeros plan fixed m n b.beside ≡ Passes → IsUnseen words v plan n.place → done p (kept_here plan words n) m.state ≡ Some (Next, counted m.state) → Round p (program_of words.insts) (AreBeside words v zeros plan fixed) m n
+kept_silent words v zeros plan fixed p m n b passes unseen does' =
+    let q = program_of words.insts in
+    let r = b.beside in
+    let inst = inst_at words.insts n.place in
+    let next = machine (n.place + 1) (record n.state { values = n.state.values; memory = n.state.memory; steps = n.state.steps + 1 }) in
+    let goes : step q n ≡ Some (GoesOn next) = running_step words v n r.steady.running ∙ ap (λ (e : Effect). led q n.place (after_effect inst n.state e)) passes in
+    let goes' : step p m ≡ Some (GoesOn (machine (m.place + 1) (record m.state { values = m.state.values; memory = m.state.memory; steps = m.state.steps + 1 }))) =
+    new_step words v zeros plan fixed p m n b (counted m.state) does' in
+    stepped words v zeros plan fixed b.setting.is p m n r b.no_label b.straight m.state.values n.state.values m.state.memory n.state.memory goes' goes
+    (record {
+      steady = steady_on words v zeros n next r.steady goes;
+      place_is = moves_on words v zeros plan fixed p m n b;
+      agree = agree_unseen words v plan n.place m.state.values n.state.values unseen r.alike.values;
+      hold = r.alike.memory;
+      others = λ id at there other. refl;
+      fixed_now = r.fixed_now;
+      few = let f = r.alike.steps in omega (arith, f);
+    })
+
+-- both write the same words
+pub kept_written : (words : Words) (v : IsValidList words) (zeros : List ℕ) (plan : Plan) (fixed : Values) (p : Program) (m n : Machine) (b : Both words v zeros plan fixed p m n) (variable place : ℕ) (written : List ℕ)
+    → effect_here words v zeros plan fixed m n b.beside ≡ Writes variable place written → IsUnseen words v plan n.place
+    → done p (kept_here plan words n) m.state ≡ Some (Next, record (counted m.state) { memory = with_words variable place written m.state.memory }) → Round p (program_of words.insts) (AreBeside words v zeros plan fixed) m n
+kept_written words v zeros plan fixed p m n b variable place written writes unseen does' =
+    let q = program_of words.insts in
+    let r = b.beside in
+    let inst = inst_at words.insts n.place in
+    let new = with_words variable place written m.state.memory in
+    let old = with_words variable place written n.state.memory in
+    let next = machine (n.place + 1) (record n.state { values = n.state.values; memory = old; steps = n.state.steps + 1 }) in
+    let goes : step q n ≡ Some (GoesOn next) = running_step words v n r.steady.running ∙ ap (λ (e : Effect). led q n.place (after_effect inst n.state e)) writes in
+    let goes' : step p m ≡ Some (GoesOn (machine (m.place + 1) (record m.state { values = m.state.values; memory = new; steps = m.state.steps + 1 }))) =
+    new_step words v zeros plan fixed p m n b (record (counted m.state) { memory = new }) does' in
+    stepped words v zeros plan fixed b.setting.is p m n r b.no_label b.straight m.state.values n.state.values new old goes' goes
+    (record {
+      steady = steady_on words v zeros n next r.steady goes;
+      place_is = moves_on words v zeros plan fixed p m n b;
+      agree = agree_unseen words v plan n.place m.state.values n.state.values unseen r.alike.values;
+      hold = λ other at held. rw (r.alike.memory other at held) refl;
+      others = λ id at there other. refl;
+      fixed_now = r.fixed_now;
       few = let f = r.alike.steps in omega (arith, f);
     })

@@ -80,7 +80,7 @@ passed_given words v zeros plan fixed p m n a value gives known =
 abbrev pub IsUnseen : (words : Words) → IsValidList words → Plan → ℕ → Type 0
 IsUnseen words v plan place = (id : ℕ) (s : IsSeen plan words.insts (intervals_of v.derivation) (place + 1) id) → s.at ≡ place → ⊥
 
-agree_unseen : (words : Words) (v : IsValidList words) (plan : Plan) (place : ℕ) (new old : Values) → IsUnseen words v plan place → AgreeOn (IsSeen plan words.insts (intervals_of v.derivation) place) plan.name new old
+pub agree_unseen : (words : Words) (v : IsValidList words) (plan : Plan) (place : ℕ) (new old : Values) → IsUnseen words v plan place → AgreeOn (IsSeen plan words.insts (intervals_of v.derivation) place) plan.name new old
     → AgreeOn (IsSeen plan words.insts (intervals_of v.derivation) (place + 1)) plan.name new old
 agree_unseen words v plan place new old unseen agree id s =
     elim (seen_before plan words.insts (intervals_of v.derivation) place id s) [ inl here ↦ absurd (unseen id s here) | inr before ↦ agree id before ]

@@ -15,26 +15,14 @@ use Rattle.change_model.specs.Following.{Round}
 use Rattle.change_model.specs.Plans.{Plan}
 use Rattle.change_model.specs.PlanRules.{MayStay}
 use Rattle.change_model.proofs.PlanRuns.{IsSetting, AreBeside}
+use Rattle.change_model.proofs.PlanRunsStaysLabel.{label_stays}
+use Rattle.change_model.proofs.PlanRunsStaysMerge.{selection_merge_stays, loop_merge_stays, variable_stays}
+use Rattle.change_model.proofs.PlanRunsStaysPhi.{phi_stays}
 
 -- an instruction that stays, at which both machines take a step
 abbrev pub StaysAt : (words : Words) → IsValidList words → List ℕ → Plan → Values → Program → Machine → Machine → Type 0
 StaysAt words v zeros plan fixed p m n = IsSetting words v zeros plan fixed p → AreBeside words v zeros plan fixed m n → plan.fate n.place ≡ Stays → MayStay plan words.insts n.place
     → Round p (program_of words.insts) (AreBeside words v zeros plan fixed) m n
-
-label_stays : (words : Words) (v : IsValidList words) (zeros : List ℕ) (plan : Plan) (fixed : Values) (p : Program) (m n : Machine) → (inst_at words.insts n.place).op == op.LABEL ≡ true → StaysAt words v zeros plan fixed p m n
-label_stays words v zeros plan fixed p m n is = ?
-
-phi_stays : (words : Words) (v : IsValidList words) (zeros : List ℕ) (plan : Plan) (fixed : Values) (p : Program) (m n : Machine) → (inst_at words.insts n.place).op == op.PHI ≡ true → StaysAt words v zeros plan fixed p m n
-phi_stays words v zeros plan fixed p m n is = ?
-
-variable_stays : (words : Words) (v : IsValidList words) (zeros : List ℕ) (plan : Plan) (fixed : Values) (p : Program) (m n : Machine) → (inst_at words.insts n.place).op == op.VARIABLE ≡ true → StaysAt words v zeros plan fixed p m n
-variable_stays words v zeros plan fixed p m n is = ?
-
-selection_merge_stays : (words : Words) (v : IsValidList words) (zeros : List ℕ) (plan : Plan) (fixed : Values) (p : Program) (m n : Machine) → (inst_at words.insts n.place).op == op.SELECTION_MERGE ≡ true → StaysAt words v zeros plan fixed p m n
-selection_merge_stays words v zeros plan fixed p m n is = ?
-
-loop_merge_stays : (words : Words) (v : IsValidList words) (zeros : List ℕ) (plan : Plan) (fixed : Values) (p : Program) (m n : Machine) → (inst_at words.insts n.place).op == op.LOOP_MERGE ≡ true → StaysAt words v zeros plan fixed p m n
-loop_merge_stays words v zeros plan fixed p m n is = ?
 
 plain_stays : (words : Words) (v : IsValidList words) (zeros : List ℕ) (plan : Plan) (fixed : Values) (p : Program) (m n : Machine) → is_plain (inst_at words.insts n.place).op ≡ true → StaysAt words v zeros plan fixed p m n
 plain_stays words v zeros plan fixed p m n is = ?
@@ -47,10 +35,10 @@ pub stays_step : (words : Words) (v : IsValidList words) (zeros : List ℕ) (pla
 stays_step words v zeros plan fixed p s m n r fate may = by_part (part_at words.insts v.derivation n.place r.steady.running.low r.steady.running.high)
   where
     by_part : BlockPart (inst_at words.insts n.place) → Round p (program_of words.insts) (AreBeside words v zeros plan fixed) m n
-    by_part (a_label is) = label_stays words v zeros plan fixed p m n is s r fate may
-    by_part (a_phi is) = phi_stays words v zeros plan fixed p m n is s r fate may
-    by_part (a_variable is) = variable_stays words v zeros plan fixed p m n is s r fate may
-    by_part (a_selection_merge is) = selection_merge_stays words v zeros plan fixed p m n is s r fate may
-    by_part (a_loop_merge is) = loop_merge_stays words v zeros plan fixed p m n is s r fate may
+    by_part (a_label is) = label_stays words v zeros plan fixed p m n is s r fate
+    by_part (a_phi is) = phi_stays words v zeros plan fixed p m n is s r fate
+    by_part (a_variable is) = variable_stays words v zeros plan fixed p m n is s r fate
+    by_part (a_selection_merge is) = selection_merge_stays words v zeros plan fixed p m n is s r fate
+    by_part (a_loop_merge is) = loop_merge_stays words v zeros plan fixed p m n is s r fate
     by_part (a_plain_one is) = plain_stays words v zeros plan fixed p m n is s r fate may
     by_part (a_terminator is) = end_stays words v zeros plan fixed p m n is s r fate may
