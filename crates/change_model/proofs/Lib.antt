@@ -65,3 +65,5 @@ pub mod PlanRunsStaysMerge
 pub mod PlanRunsStaysEnd
 pub mod PlanRunsKeep
 pub mod EffectsAlike
+pub mod TerminatorKinds
+pub mod PlanRunsStaysEnds

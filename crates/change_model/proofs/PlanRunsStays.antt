@@ -15,6 +15,7 @@ use Rattle.change_model.specs.Following.{Round}
 use Rattle.change_model.specs.Plans.{Plan}
 use Rattle.change_model.specs.PlanRules.{MayStay}
 use Rattle.change_model.proofs.PlanRuns.{IsSetting, AreBeside}
+use Rattle.change_model.proofs.PlanRunsStaysEnds.{end_stays}
 use Rattle.change_model.proofs.PlanRunsStaysLabel.{label_stays}
 use Rattle.change_model.proofs.PlanRunsStaysMerge.{selection_merge_stays, loop_merge_stays, variable_stays}
 use Rattle.change_model.proofs.PlanRunsStaysPhi.{phi_stays}
@@ -27,9 +28,6 @@ StaysAt words v zeros plan fixed p m n = IsSetting words v zeros plan fixed p �
 plain_stays : (words : Words) (v : IsValidList words) (zeros : List ℕ) (plan : Plan) (fixed : Values) (p : Program) (m n : Machine) → is_plain (inst_at words.insts n.place).op ≡ true → StaysAt words v zeros plan fixed p m n
 plain_stays words v zeros plan fixed p m n is = ?
 
-end_stays : (words : Words) (v : IsValidList words) (zeros : List ℕ) (plan : Plan) (fixed : Values) (p : Program) (m n : Machine) → is_terminator (inst_at words.insts n.place).op ≡ true → StaysAt words v zeros plan fixed p m n
-end_stays words v zeros plan fixed p m n is = ?
-
 pub stays_step : (words : Words) (v : IsValidList words) (zeros : List ℕ) (plan : Plan) (fixed : Values) (p : Program) → IsSetting words v zeros plan fixed p → (m n : Machine) → AreBeside words v zeros plan fixed m n → plan.fate n.place ≡ Stays
     → MayStay plan words.insts n.place → Round p (program_of words.insts) (AreBeside words v zeros plan fixed) m n
 stays_step words v zeros plan fixed p s m n r fate may = by_part (part_at words.insts v.derivation n.place r.steady.running.low r.steady.running.high)
@@ -41,4 +39,4 @@ stays_step words v zeros plan fixed p s m n r fate may = by_part (part_at words.
     by_part (a_selection_merge is) = selection_merge_stays words v zeros plan fixed p m n is s r fate
     by_part (a_loop_merge is) = loop_merge_stays words v zeros plan fixed p m n is s r fate
     by_part (a_plain_one is) = plain_stays words v zeros plan fixed p m n is s r fate may
-    by_part (a_terminator is) = end_stays words v zeros plan fixed p m n is s r fate may
+    by_part (a_terminator is) = end_stays words v zeros plan fixed p m n is s r fate

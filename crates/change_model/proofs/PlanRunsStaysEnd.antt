@@ -107,3 +107,22 @@ switch_words program plan insts place state selector (id ∷ default ∷ cases) 
         → done program (kept_at plan insts place (instruction op.SWITCH (id ∷ default ∷ cases))) state ≡ Some (To (plan.name (target_for selector default cases)), counted state)
     by_pairs true pairs has = rw pairs (rw value (ap (λ (l : ℕ). Some (To l, counted state)) (cases_name plan.name selector default cases)))
     by_pairs false pairs has = cc
+
+-- ---- by the opcode
+
+pub branch_goes : (program : Program) (plan : Plan) (insts : List Inst) (place : ℕ) (state : State) (inst : Inst) → inst.op == op.BRANCH ≡ true → is_some (kinds inst) ≡ true
+    → done program (kept_at plan insts place inst) state ≡ Some (To (plan.name (word_at 0 inst)), counted state)
+branch_goes program plan insts place state inst is =
+    at_op (λ inst. is_some (kinds inst) ≡ true → done program (kept_at plan insts place inst) state ≡ Some (To (plan.name (word_at 0 inst)), counted state)) inst op.BRANCH is (branch_words program plan insts place state inst.words)
+
+pub conditional_goes : (program : Program) (plan : Plan) (insts : List Inst) (place : ℕ) (state : State) (condition : Bool) (inst : Inst) → inst.op == op.BRANCH_CONDITIONAL ≡ true → is_some (kinds inst) ≡ true
+    → state.values (plan.name (word_at 0 inst)) ≡ Some (Truth condition) → done program (kept_at plan insts place inst) state ≡ Some (To (plan.name (if condition then word_at 1 inst else word_at 2 inst)), counted state)
+unfolding KeptGoes
+conditional_goes program plan insts place state condition inst is =
+    at_op (λ inst. KeptGoes program plan insts place state (Truth condition) (if condition then word_at 1 inst else word_at 2 inst) inst) inst op.BRANCH_CONDITIONAL is (conditional_words program plan insts place state condition inst.words)
+
+pub switch_goes : (program : Program) (plan : Plan) (insts : List Inst) (place : ℕ) (state : State) (selector : ℕ) (inst : Inst) → inst.op == op.SWITCH ≡ true → is_some (kinds inst) ≡ true
+    → state.values (plan.name (word_at 0 inst)) ≡ Some (Word selector) → done program (kept_at plan insts place inst) state ≡ Some (To (plan.name (target_for selector (word_at 1 inst) (words_from 2 inst))), counted state)
+unfolding KeptGoes
+switch_goes program plan insts place state selector inst is =
+    at_op (λ inst. KeptGoes program plan insts place state (Word selector) (target_for selector (word_at 1 inst) (words_from 2 inst)) inst) inst op.SWITCH is (switch_words program plan insts place state selector inst.words)
