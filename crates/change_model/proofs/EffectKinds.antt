@@ -1,5 +1,5 @@
 -- Which instructions write and which enter a block.
-use Rattle.std.proofs.Common.{◌≡◌, ℕ, ◌==◌, Bool, true, false, if◌then◌else◌, List, [], ◌∷◌, drop, slice_index, refl, ap, sym, ◌∙◌, subst, Option, None, Some}
+use Rattle.std.proofs.Common.{◌≡◌, ℕ, ◌==◌, ◌||◌, Bool, true, false, if◌then◌else◌, List, [], ◌∷◌, drop, slice_index, refl, ap, sym, ◌∙◌, subst, Option, None, Some}
 use Rattle.std.specs.Option.{option_map, option_and_then}
 use Rattle.spirv_model.specs.declared.module.Inst.{Inst}
 use Rattle.spirv_model.specs.declared.op.TheConstants as op
@@ -14,12 +14,15 @@ use Rattle.typed_model.proofs.BlockParts.{clash}
 use Rattle.typed_model.proofs.EffectsRun.{instruction}
 use Rattle.typed_model.proofs.PlainRuns.{at_op}
 
--- only OpStore writes, and only OpLabel enters a block
+-- merge instructions and OpStore do nothing at times, only OpStore writes, and only OpLabel enters a block
+abbrev pub may_pass : ℕ → Bool
+may_pass opcode = (opcode == op.SELECTION_MERGE) || ((opcode == op.LOOP_MERGE) || (opcode == op.STORE))
+
 abbrev Comes : Inst → Option Effect → Type 0
 Comes inst None = Unit {0}
 Comes inst (Some (Writes variable place words)) = inst.op == op.STORE ≡ true
 Comes inst (Some (Enters label)) = inst.op == op.LABEL ≡ true
-Comes inst (Some Passes) = Unit {0}
+Comes inst (Some Passes) = may_pass inst.op ≡ true
 Comes inst (Some (Gives value)) = Unit {0}
 Comes inst (Some (Goes label)) = Unit {0}
 Comes inst (Some (Stops kind)) = Unit {0}
@@ -32,9 +35,17 @@ written_comes : (inst : Inst) → inst.op == op.STORE ≡ true → (words : List
 written_comes inst is words variable None = tt
 written_comes inst is words variable (Some place) = is
 
+store_passes : (opcode : ℕ) → opcode == op.STORE ≡ true → may_pass opcode ≡ true
+store_passes opcode is = by_tests (opcode == op.SELECTION_MERGE) (opcode == op.LOOP_MERGE) (opcode == op.STORE) is
+  where
+    by_tests : (a b c : Bool) → c ≡ true → (a || (b || c)) ≡ true
+    by_tests true b c is = refl
+    by_tests false true c is = refl
+    by_tests false false c is = is
+
 stored_comes : (program : Program) (inst : Inst) → inst.op == op.STORE ≡ true → (words : List ℕ) (pointer : Value) → Comes inst (stored program words pointer)
 stored_comes program inst is words (Pointer variable indices) = written_comes inst is words variable (place_of program variable indices)
-stored_comes program inst is words Outside = tt
+stored_comes program inst is words Outside = store_passes inst.op is
 stored_comes program inst is words (Truth b) = tt
 stored_comes program inst is words (Word word) = tt
 stored_comes program inst is words (Composite parts) = tt
@@ -79,11 +90,26 @@ given_comes : (inst : Inst) (value : Option Value) → Comes inst (option_map Gi
 given_comes inst None = tt
 given_comes inst (Some value) = tt
 
+selection_passes : (opcode : ℕ) → opcode == op.SELECTION_MERGE ≡ true → may_pass opcode ≡ true
+selection_passes opcode is = by_test (opcode == op.SELECTION_MERGE) _ is
+  where
+    by_test : (a b : Bool) → a ≡ true → (a || b) ≡ true
+    by_test true b is = refl
+    by_test false b is = cc
+
+loop_passes : (opcode : ℕ) → opcode == op.LOOP_MERGE ≡ true → may_pass opcode ≡ true
+loop_passes opcode is = by_tests (opcode == op.SELECTION_MERGE) (opcode == op.LOOP_MERGE) _ is
+  where
+    by_tests : (a b c : Bool) → b ≡ true → (a || (b || c)) ≡ true
+    by_tests true b c is = refl
+    by_tests false true c is = refl
+    by_tests false false c is = cc
+
 effect_comes : (program : Program) (memory : Memory) (inst : Inst) (values : List Value) → Comes inst (effect_of program memory inst values)
 unfolding effect_of
 effect_comes program memory inst values =
     let P = Comes inst in
-    choose P (inst.op == op.LABEL) (λ is. is) (λ _. choose P (inst.op == op.SELECTION_MERGE) (λ _. tt) (λ _. choose P (inst.op == op.LOOP_MERGE) (λ _. tt) (λ _. choose P (inst.op == op.VARIABLE) (λ _. tt)
+    choose P (inst.op == op.LABEL) (λ is. is) (λ _. choose P (inst.op == op.SELECTION_MERGE) (λ is. selection_passes inst.op is) (λ _. choose P (inst.op == op.LOOP_MERGE) (λ is. loop_passes inst.op is) (λ _. choose P (inst.op == op.VARIABLE) (λ _. tt)
     (λ _. choose P (inst.op == op.STORE) (λ is. stores_come program inst is values) (λ _. choose P (inst.op == op.BRANCH) (λ _. tt)
     (λ _. choose P (inst.op == op.BRANCH_CONDITIONAL) (λ _. branches_come inst values (slice_index inst.words 1) (slice_index inst.words 2))
     (λ _. choose P (inst.op == op.SWITCH) (λ _. picks_come inst values (slice_index inst.words 1) (drop 2 inst.words))
@@ -93,7 +119,7 @@ effect_comes program memory inst values =
 -- ---- what an instruction does that is no label and no terminator
 
 pub data DoesInner (inst : Inst) (effect : Effect) : Type 0 where
-  passes : effect ≡ Passes → DoesInner inst effect
+  passes : effect ≡ Passes → may_pass inst.op ≡ true → DoesInner inst effect
   gives : (value : Value) → effect ≡ Gives value → DoesInner inst effect
   writes : (variable place : ℕ) (words : List ℕ) → effect ≡ Writes variable place words → inst.op == op.STORE ≡ true → DoesInner inst effect
 
@@ -102,7 +128,7 @@ does_inner program memory inst values effect is no_label straight =
     by_effect effect (subst (Comes inst) is (effect_comes program memory inst values)) (subst (Suits inst) is (effect_suits program memory inst values))
   where
     by_effect : (effect : Effect) → Comes inst (Some effect) → Suits inst (Some effect) → DoesInner inst effect
-    by_effect Passes comes suits = passes refl
+    by_effect Passes comes suits = passes refl comes
     by_effect (Gives value) comes suits = gives value refl
     by_effect (Writes variable place words) comes suits = writes variable place words refl comes
     by_effect (Enters label) comes suits = absurd (clash (inst.op == op.LABEL) comes no_label)

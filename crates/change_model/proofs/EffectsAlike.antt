@@ -7,7 +7,7 @@ use Rattle.spirv_model.specs.declared.module.Inst.{Inst}
 use Rattle.spirv_model.specs.declared.op.TheConstants as op
 use Rattle.stage_model.specs.Value.{Value, Truth, Word, Composite, Pointer, Outside, Layout, size_of, value_of, words_of}
 use Rattle.stage_model.specs.Program.{Program, held_layout}
-use Rattle.stage_model.specs.Operations.{is_vector}
+use Rattle.stage_model.specs.Operations.{is_vector, constructed}
 use Rattle.stage_model.specs.Start.{Memory}
 use Rattle.stage_model.specs.Effect.{words_from, place_of, loaded, stored, stores, all_words, chained, chain_of, one, result_of, effect_of}
 
@@ -105,13 +105,24 @@ result_loads p q new old opcode values all hold layout other = by_test (opcode =
     by_test true hold = loads_same p q new old values all (hold refl) layout
     by_test false hold = refl
 
-result_alike : (p q : Program) → p.layout ≡ q.layout → (new old : Memory) (opcode type : ℕ) (words : List ℕ) (values : List Value) → is_vector (p.meaning type) ≡ is_vector (q.meaning type) → AllPointAlike p q values → LoadsAlike new old opcode values
+made_same : (p q : Program) (opcode type : ℕ) (values : List Value) (other : Option Value) → (opcode == op.COMPOSITE_CONSTRUCT ≡ true → is_vector (p.meaning type) ≡ is_vector (q.meaning type))
+    → (if opcode == op.COMPOSITE_CONSTRUCT then Some (constructed (is_vector (p.meaning type)) values) else other) ≡ (if opcode == op.COMPOSITE_CONSTRUCT then Some (constructed (is_vector (q.meaning type)) values) else other)
+made_same p q opcode type values other vector = by_test (opcode == op.COMPOSITE_CONSTRUCT) vector
+  where
+    by_test : (b : Bool) → (b ≡ true → is_vector (p.meaning type) ≡ is_vector (q.meaning type))
+        → (if b then Some (constructed (is_vector (p.meaning type)) values) else other) ≡ (if b then Some (constructed (is_vector (q.meaning type)) values) else other)
+    by_test true vector = ap (λ (v : Bool). Some (constructed v values)) (vector refl)
+    by_test false vector = refl
+
+result_alike : (p q : Program) → p.layout ≡ q.layout → (new old : Memory) (opcode type : ℕ) (words : List ℕ) (values : List Value) → (opcode == op.COMPOSITE_CONSTRUCT ≡ true → is_vector (p.meaning type) ≡ is_vector (q.meaning type)) → AllPointAlike p q values
+    → LoadsAlike new old opcode values
     → result_of p new opcode type words values ≡ result_of q old opcode type words values
 unfolding result_of
 result_alike p q layouts new old opcode type words values vector all hold =
-    rw (ap (λ (l : ℕ → Option Layout). l type) layouts) (rw (chain_same p q values all) (rw vector (rw (result_loads p q new old opcode values all hold (q.layout type) _) refl)))
+    rw (ap (λ (l : ℕ → Option Layout). l type) layouts) (rw (chain_same p q values all) (rw (made_same p q opcode type values _ vector) (rw (result_loads p q new old opcode values all hold (q.layout type) _) refl)))
 
-pub effect_alike : (p q : Program) → p.layout ≡ q.layout → (new old : Memory) (inst : Inst) (values : List Value) → is_vector (p.meaning (slice_index inst.words 0)) ≡ is_vector (q.meaning (slice_index inst.words 0)) → AllPointAlike p q values
+pub effect_alike : (p q : Program) → p.layout ≡ q.layout → (new old : Memory) (inst : Inst) (values : List Value)
+    → (inst.op == op.COMPOSITE_CONSTRUCT ≡ true → is_vector (p.meaning (slice_index inst.words 0)) ≡ is_vector (q.meaning (slice_index inst.words 0))) → AllPointAlike p q values
     → LoadsAlike new old inst.op values → effect_of p new inst values ≡ effect_of q old inst values
 unfolding effect_of
 effect_alike p q layouts new old inst values vector all hold =

@@ -67,3 +67,4 @@ pub mod PlanRunsKeep
 pub mod EffectsAlike
 pub mod TerminatorKinds
 pub mod PlanRunsStaysEnds
+pub mod PlanRunsPlain

@@ -156,7 +156,7 @@ unused_result words v zeros plan fixed p is m n r fate id may has =
     unseen = unused_unseen words v zeros plan is n.place fate
 
     by_effect : DoesInner inst (here_does words v n r.steady.running).runs.effect → Round p (program_of words.insts) (AreBeside words v zeros plan fixed) m n
-    by_effect (passes same) = passed_silent words v zeros plan fixed p m n alone same unseen
+    by_effect (passes same may_pass) = passed_silent words v zeros plan fixed p m n alone same unseen
     by_effect (gives_one value same) =
         let own : result inst ≡ Some (word_at 1 inst) = gives_result q n.state.memory inst d.read value (d.runs.is ∙ ap (λ (e : Effect). Some e) same) in
         let defined = own_defined words v n.place (word_at 1 inst) (function_within words.insts v.derivation n.place r.steady.running.high) own in
@@ -222,7 +222,7 @@ unused_store words v zeros plan fixed p is m n r fate store unread =
     now = ap (λ (values : Values). all_values values (read_ids inst.op n.state.before inst.words)) (sym (reads_now n.state (inst.op == op.PHI) (ap (λ (o : ℕ). o == op.PHI) store))) ∙ d.are
 
     by_effect : DoesInner inst (here_does words v n r.steady.running).runs.effect → Round p (program_of words.insts) (AreBeside words v zeros plan fixed) m n
-    by_effect (passes same) = passed_silent words v zeros plan fixed p m n alone same unseen
+    by_effect (passes same may_pass) = passed_silent words v zeros plan fixed p m n alone same unseen
     by_effect (gives_one value same) =
         absurd (none_some (result inst) (word_at 1 inst) (store_result inst is_store) (gives_result q n.state.memory inst d.read value (d.runs.is ∙ ap (λ (e : Effect). Some e) same)))
     by_effect (writes variable place written same also) =

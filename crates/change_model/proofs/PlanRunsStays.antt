@@ -15,18 +15,11 @@ use Rattle.change_model.specs.Following.{Round}
 use Rattle.change_model.specs.Plans.{Plan}
 use Rattle.change_model.specs.PlanRules.{MayStay}
 use Rattle.change_model.proofs.PlanRuns.{IsSetting, AreBeside}
+use Rattle.change_model.proofs.PlanRunsPlain.{plain_stays}
 use Rattle.change_model.proofs.PlanRunsStaysEnds.{end_stays}
 use Rattle.change_model.proofs.PlanRunsStaysLabel.{label_stays}
 use Rattle.change_model.proofs.PlanRunsStaysMerge.{selection_merge_stays, loop_merge_stays, variable_stays}
 use Rattle.change_model.proofs.PlanRunsStaysPhi.{phi_stays}
-
--- an instruction that stays, at which both machines take a step
-abbrev pub StaysAt : (words : Words) → IsValidList words → List ℕ → Plan → Values → Program → Machine → Machine → Type 0
-StaysAt words v zeros plan fixed p m n = IsSetting words v zeros plan fixed p → AreBeside words v zeros plan fixed m n → plan.fate n.place ≡ Stays → MayStay plan words.insts n.place
-    → Round p (program_of words.insts) (AreBeside words v zeros plan fixed) m n
-
-plain_stays : (words : Words) (v : IsValidList words) (zeros : List ℕ) (plan : Plan) (fixed : Values) (p : Program) (m n : Machine) → is_plain (inst_at words.insts n.place).op ≡ true → StaysAt words v zeros plan fixed p m n
-plain_stays words v zeros plan fixed p m n is = ?
 
 pub stays_step : (words : Words) (v : IsValidList words) (zeros : List ℕ) (plan : Plan) (fixed : Values) (p : Program) → IsSetting words v zeros plan fixed p → (m n : Machine) → AreBeside words v zeros plan fixed m n → plan.fate n.place ≡ Stays
     → MayStay plan words.insts n.place → Round p (program_of words.insts) (AreBeside words v zeros plan fixed) m n
