@@ -116,6 +116,10 @@ effect_comes program memory inst values =
     (λ _. choose P (inst.op == op.RETURN) (λ _. tt) (λ _. choose P (inst.op == op.UNREACHABLE) (λ _. tt) (λ _. choose P (inst.op == op.KILL) (λ _. tt)
     (λ _. choose P (has_result_class (class_of inst.op)) (λ _. given_comes inst (result_of program memory inst.op (slice_index inst.words 0) (drop 2 inst.words) values)) (λ _. tt))))))))))))
 
+-- only OpStore writes
+pub writes_store : (program : Program) (memory : Memory) (inst : Inst) (values : List Value) (variable place : ℕ) (words : List ℕ) → effect_of program memory inst values ≡ Some (Writes variable place words) → inst.op == op.STORE ≡ true
+writes_store program memory inst values variable place words is = subst (Comes inst) is (effect_comes program memory inst values)
+
 -- ---- what an instruction does that is no label and no terminator
 
 pub data DoesInner (inst : Inst) (effect : Effect) : Type 0 where

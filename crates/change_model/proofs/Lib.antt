@@ -68,3 +68,5 @@ pub mod EffectsAlike
 pub mod TerminatorKinds
 pub mod PlanRunsStaysEnds
 pub mod PlanRunsPlain
+pub mod PlanRunsStores
+pub mod PlanRunsZeros

@@ -27,6 +27,7 @@ use Rattle.change_model.proofs.PlanRuns.{IsSeen, IsHeld, AreBeside}
 use Rattle.change_model.proofs.PlanRunsBehind.{passed}
 use Rattle.change_model.proofs.PlanRunsNames.{place_on}
 use Rattle.change_model.proofs.PlanRunsSteady.{steady_on}
+use Rattle.change_model.proofs.PlanRunsStores.{elsewhere}
 use Rattle.change_model.proofs.PlanRunsValues.{seen_before, agree_given, own_defined}
 
 -- what holds where the old side takes the step alone
@@ -104,17 +105,6 @@ passed_silent words v zeros plan fixed p m n a passes unseen =
       fixed_now = r.fixed_now;
       few = let f = r.alike.steps in omega (arith, f);
     })
-
--- another variable holds what it held
-pub elsewhere : (variable place : ℕ) (written : List ℕ) (memory : Memory) (other at : ℕ) → (other ≡ variable → ⊥) → with_words variable place written memory other at ≡ memory other at
-elsewhere variable place written memory other at isnt = by_test (other == variable) refl
-  where
-    same_id : (a b : ℕ) → a == b ≡ true → a ≡ b
-    same_id a b is = grind (arith, nat_tests)
-
-    by_test : (b : Bool) → (other == variable) ≡ b → (if b && nat_le place at && nat_lt at (place + length written) then slice_index written (at - place) else memory other at) ≡ memory other at
-    by_test true is = absurd (isnt (same_id other variable is))
-    by_test false is = refl
 
 -- it writes into a variable that nobody reads
 pub passed_written : (words : Words) (v : IsValidList words) (zeros : List ℕ) (plan : Plan) (fixed : Values) (p : Program) (m n : Machine) (a : Alone words v zeros plan fixed m n) (variable place : ℕ) (written : List ℕ)

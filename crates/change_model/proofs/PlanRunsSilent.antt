@@ -37,6 +37,7 @@ use Rattle.change_model.proofs.PlanRuns.{IsSeen, is_unused_at, is_unused_fate, I
 use Rattle.change_model.proofs.PlanRunsNames.{in_function, fits_as, written_by, own_name}
 use Rattle.change_model.proofs.PlanRunsPassed.{Alone, effect_here, IsUnseen, passed_given, passed_silent, passed_written}
 use Rattle.change_model.proofs.PlanRunsReads.{IsReadAt, plain_reads}
+use Rattle.change_model.proofs.PlanRunsStores.{store_plain, first_of}
 use Rattle.change_model.proofs.PlanRunsValues.{own_defined, result_at}
 
 same_op : (opcode own : ℕ) → opcode ≡ own → opcode == own ≡ true
@@ -162,24 +163,6 @@ unused_result words v zeros plan fixed p is m n r fate id may has =
         let defined = own_defined words v n.place (word_at 1 inst) (function_within words.insts v.derivation n.place r.steady.running.high) own in
         passed_given words v zeros plan fixed p m n alone value same (λ s. absurd (unseen (word_at 1 inst) s (seen_own words v plan n.place (word_at 1 inst) defined s)))
     by_effect (writes variable place written same store) = absurd (none_some (result inst) id (store_result inst store) has)
-
-store_plain : is_plain op.STORE ≡ true
-unfolding class_of entry_of
-store_plain = refl
-
--- the pointer of OpStore is among what it reads
-FirstOf : (ℕ → Type 0) → ℕ → Inst → Type 0
-FirstOf P before inst = is_some (kinds inst) ≡ true → Each P (read_ids inst.op before inst.words) → P (word_at 0 inst)
-
-store_first : (P : ℕ → Type 0) (before : ℕ) (words : List ℕ) → FirstOf P before (instruction op.STORE words)
-unfolding FirstOf kinds entry_of read_ids
-store_first P before [] has each = cc
-store_first P before (pointer ∷ []) has each = cc
-store_first P before (pointer ∷ object ∷ words) has each = each.0
-
-first_of : (P : ℕ → Type 0) (before : ℕ) (inst : Inst) → inst.op == op.STORE ≡ true → is_some (kinds inst) ≡ true → Each P (read_ids inst.op before inst.words) → P (word_at 0 inst)
-unfolding FirstOf
-first_of P before inst is has each = at_op (FirstOf P before) inst op.STORE is (store_first P before inst.words) has each
 
 -- a pointer that is read leads into its root
 pub read_rooted : (words : Words) (v : IsValidList words) (zeros : List ℕ) (n : Machine) → IsSteady words v zeros n → (id variable : ℕ) → IsReadAt words v n.place id → IsPointerInto variable (n.state.values id) → variable ≡ root_of words.insts id

@@ -7,15 +7,12 @@ use Rattle.stage_model.specs.Program.{program_of}
 use Rattle.stage_model.specs.Machine.{Machine, GoesOn, step}
 use Rattle.typed_model.specs.Running.{IsRunning}
 use Rattle.change_model.proofs.MachineSteps.{still_running}
-use Rattle.change_model.proofs.PlanRuns.{AreRooted, HoldZeros, IsSteady}
+use Rattle.change_model.proofs.PlanRuns.{AreRooted, IsSteady}
+use Rattle.change_model.proofs.PlanRunsZeros.{zeros_on}
 
 rooted_on : (words : Words) (v : IsValidList words) (n next : Machine) → IsRunning words.insts v.derivation n → AreRooted words.insts (intervals_of v.derivation) n.place n.state.values
     → step (program_of words.insts) n ≡ Some (GoesOn next) → AreRooted words.insts (intervals_of v.derivation) next.place next.state.values
 rooted_on words v n next r rooted is = ?
-
-zeros_on : (words : Words) (v : IsValidList words) (zeros : List ℕ) (n next : Machine) → IsRunning words.insts v.derivation n → HoldZeros words.insts zeros n.state.memory
-    → step (program_of words.insts) n ≡ Some (GoesOn next) → HoldZeros words.insts zeros next.state.memory
-zeros_on words v zeros n next r zero is = ?
 
 pub steady_on : (words : Words) (v : IsValidList words) (zeros : List ℕ) (n next : Machine) → IsSteady words v zeros n → step (program_of words.insts) n ≡ Some (GoesOn next) → IsSteady words v zeros next
 steady_on words v zeros n next s is = record {
