@@ -27,7 +27,6 @@ use Rattle.stage_model.specs.Stage.{Given, Outcome, start_at, first_label, outco
 use Rattle.typed_model.specs.Running.{IsRunning}
 use Rattle.typed_model.proofs.BlockParts.{clash}
 use Rattle.typed_model.proofs.RunningDoes.{running_does}
-use Rattle.typed_model.proofs.RunningGoes.{running_goes}
 use Rattle.typed_model.proofs.RunningStart.{first_label_is, running_start}
 use Rattle.change_model.specs.Keeping.{IsKept, KeepsOutcome}
 use Rattle.change_model.specs.Following.{Round, returns, ends, stops, Follows}
@@ -35,6 +34,7 @@ use Rattle.change_model.specs.Programs.{AreProgramsAlike}
 use Rattle.change_model.proofs.Followed.{same_insts, stage_followed}
 use Rattle.change_model.proofs.GivenResults.{gives_result}
 use Rattle.change_model.proofs.KnownResults.{beside, StaysKnown, GivesOther, still_known, done_beside, given_own, known_now, without_one, moved, get_moved, label_moved, back_same}
+use Rattle.change_model.proofs.MachineSteps.{step_is, still_running}
 use Rattle.change_model.proofs.SameFunction.{label_behind_front}
 use Rattle.change_model.proofs.SameStarts.{outcome_same}
 use Rattle.change_model.proofs.SettledValues.{only_there}
@@ -127,18 +127,6 @@ one_step_more inst state (Goes label) = refl
 one_step_more inst state (Stops kind) = refl
 
 -- ---- steps
-
-pub step_is : (program : Program) (m : Machine) (inst : Inst) (led_by : Flow × State) → slice_get program.insts m.place ≡ Some inst → done program inst m.state ≡ Some led_by → step program m ≡ led program m.place led_by
-unfolding step
-step_is program m inst led_by here does =
-    ap (λ (o : Option Inst). option_and_then (led program m.place) (option_and_then (λ (i : Inst). done program i m.state) o)) here ∙ ap (option_and_then (led program m.place)) does
-
-same_step : (found : Option Step) (a b : Step) → found ≡ Some a → found ≡ Some b → a ≡ b
-same_step found a b is also = cc
-
-still_running : (words : Words) (v : IsValidList words) (n next : Machine) → IsRunning words.insts v.derivation n → step (program_of words.insts) n ≡ Some (GoesOn next) → IsRunning words.insts v.derivation next
-still_running words v n next r is =
-    let g = running_goes words v n r in g.on next (same_step (step (program_of words.insts) n) g.to (GoesOn next) g.is is)
 
 labels_are : (insts : List Inst) (label : ℕ) → (program_of insts).label_place label ≡ first_label_place insts label
 unfolding program_of

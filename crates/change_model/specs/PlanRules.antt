@@ -202,7 +202,7 @@ is_constant_fate (Folds scalar) = true
 is_constant_fate Nulls = true
 is_constant_fate fate = false
 
--- one pair of the phi at a place is left, and its value stands for the phi: a constant by then, or visible there
+-- one pair of the phi at a place is left, and its value stands for the phi: a constant by then, or visible there and given in another block
 pub record IsResolved (plan : Plan) (insts : List Inst) (intervals : List Interval) (place : ℕ) : Type 0 where
   pub pair : Incoming
   pub is_phi : (inst_at insts place).op ≡ op.PHI
@@ -216,6 +216,7 @@ pub record IsResolved (plan : Plan) (insts : List Inst) (intervals : List Interv
   pub at : ℕ
   pub defined : definition insts (plan.name pair.value) ≡ Some at
   pub visible : is_constant_fate (plan.fate at) || is_visible (intervals_left plan insts intervals) at place ≡ true
+  pub apart : is_constant_fate (plan.fate at) || not (block_at insts at == block_at insts place) ≡ true
 
 -- ---- what nobody uses
 
