@@ -25,6 +25,7 @@ pub mod KnownResults
 pub mod KnownRuns
 pub mod LaterIntervals
 pub mod MovedUp
+pub mod PredecessorsLeft
 pub mod SameEffects
 pub mod SameFunction
 pub mod SameStarts
