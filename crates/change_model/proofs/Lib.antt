@@ -52,6 +52,7 @@ pub mod Pieces
 pub mod Planned
 pub mod RenamedWords
 pub mod ResultsAmongIds
+pub mod PredecessorsLeft
 pub mod SameEffects
 pub mod SameFacts
 pub mod SameFunction
