@@ -1,0 +1,4 @@
+mod BlockEnds
+mod Fronts
+mod KeptWords
+mod Pairs
