@@ -22,7 +22,9 @@ mod used_ids;
 mod uses;
 mod visibility;
 
+pub use branches::{Branches, branches_of, is_terminator};
 pub use check_model::{CheckFault, Stage};
 pub use checks::{check, check_list};
 pub use copy::valid_module;
 pub use module::Module;
+pub use sequence_limits::limits_of;
