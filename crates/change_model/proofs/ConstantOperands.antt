@@ -107,7 +107,7 @@ alone_behind insts d k low within = elim (cases_lt d.before k) [
   | inr upto ↦ let e : d.before ≡ k = omega (arith, low, upto) in subst (λ n. IsAlone (inst_at insts n).op) e (subst IsAlone (sym (function_op insts d)) function_alone)
 ]
 
-before_function : (insts : List Inst) (d : Derives insts) (k : ℕ) → k < length insts → is_constant (inst_at insts k).op ≡ true → k < d.before
+pub before_function : (insts : List Inst) (d : Derives insts) (k : ℕ) → k < length insts → is_constant (inst_at insts k).op ≡ true → k < d.before
 before_function insts d k within is = elim (cases_lt k d.before) [
   | inl early ↦ early
   | inr late ↦ absurd (clash (is_constant (inst_at insts k).op) is (alone_behind insts d k late within).1)
@@ -118,7 +118,7 @@ abbrev pub first_values : (words : Words) → IsValidList words → SpecValues �
 first_values words v entries = defined_by (program_of words.insts) entries (take (v.derivation.before + 1) words.insts)
 
 -- what the module's level gives a value has it at the end of the list, too
-at_end : (words : Words) (v : IsValidList words) (entries : SpecValues) (id : ℕ) → IsOfLevel words v id → first_values words v entries id ≡ defined_by (program_of words.insts) entries words.insts id
+pub at_end : (words : Words) (v : IsValidList words) (entries : SpecValues) (id : ℕ) → IsOfLevel words v id → first_values words v entries id ≡ defined_by (program_of words.insts) entries words.insts id
 at_end words v entries id level =
     let insts = words.insts in let p = program_of words.insts in let n = v.derivation.before + 1 in
     sym (ap (λ (values : Values). values id) (by_parts p entries insts n)
@@ -126,9 +126,9 @@ at_end words v entries id level =
     ap (gives id) (get_or-drop n insts k no_instruction) ∙ level (n + k) (omega arith) (let e = length-drop n insts in omega (arith, less, e))))
 
 -- an id of the module's level with this scalar as its value
-record HoldsScalar (words : Words) (v : IsValidList words) (entries : SpecValues) (id : ℕ) (scalar : Scalar) : Type 0 where
-  level : IsOfLevel words v id
-  value : first_values words v entries id ≡ Some (of_scalar scalar)
+pub record HoldsScalar (words : Words) (v : IsValidList words) (entries : SpecValues) (id : ℕ) (scalar : Scalar) : Type 0 where
+  pub level : IsOfLevel words v id
+  pub value : first_values words v entries id ≡ Some (of_scalar scalar)
 
 at_place : (words : Words) (v : IsValidList words) (entries : SpecValues) (id : ℕ) (scalar : Scalar) (place : ℕ) → definition words.insts id ≡ Some place → scalar_by words.insts (inst_at words.insts place) ≡ Some scalar
     → HoldsScalar words v entries id scalar
@@ -151,7 +151,7 @@ at_place words v entries id scalar place defined is =
     one : (found : Option ℕ) (a b : ℕ) → found ≡ Some a → found ≡ Some b → a ≡ b
     one found a b is also = cc
 
-holds_scalar : (words : Words) (v : IsValidList words) (entries : SpecValues) (id : ℕ) (scalar : Scalar) → constant_scalar words.insts id ≡ Some scalar → HoldsScalar words v entries id scalar
+pub holds_scalar : (words : Words) (v : IsValidList words) (entries : SpecValues) (id : ℕ) (scalar : Scalar) → constant_scalar words.insts id ≡ Some scalar → HoldsScalar words v entries id scalar
 unfolding constant_scalar
 holds_scalar words v entries id scalar is = by_place (definition words.insts id) refl is
   where

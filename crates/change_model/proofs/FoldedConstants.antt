@@ -50,7 +50,7 @@ select_is true condition x y scalar is = chosen_is condition x y scalar is
 select_is false condition x y scalar is = cc
 
 -- it gives what the scalar operation gives
-operation_on : (opcode : ℕ) (scalars : List Scalar) (scalar : Scalar) → scalar_result opcode scalars ≡ Some scalar → operation opcode (map of_scalar scalars) ≡ Some (of_scalar scalar)
+pub operation_on : (opcode : ℕ) (scalars : List Scalar) (scalar : Scalar) → scalar_result opcode scalars ≡ Some scalar → operation opcode (map of_scalar scalars) ≡ Some (of_scalar scalar)
 unfolding operation scalar_result
 operation_on opcode [] scalar is = cc
 operation_on opcode (WordOf a ∷ []) scalar is = ap (option_map of_scalar) is

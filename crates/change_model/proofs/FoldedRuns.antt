@@ -28,7 +28,8 @@ use Rattle.typed_model.proofs.RunningDoes.{running_does}
 use Rattle.change_model.proofs.Followed.{same_insts}
 use Rattle.change_model.proofs.GivenResults.{gives_result}
 use Rattle.change_model.proofs.KnownResults.{GivesOther}
-use Rattle.change_model.proofs.KnownRuns.{GivesKnown, step_is}
+use Rattle.change_model.proofs.KnownRuns.{GivesKnown}
+use Rattle.change_model.proofs.MachineSteps.{step_is}
 
 -- ---- the opcode of a scalar operation
 

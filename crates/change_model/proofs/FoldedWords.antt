@@ -101,7 +101,7 @@ long_entry opcode (Some Skipped) words is long fits = cc
 long_entry opcode (Some Float) words is long fits = cc
 long_entry opcode None words is long fits = cc
 
-scalar_long : (inst : Inst) → is_scalar inst.op ≡ true → is_some (kinds inst) ≡ true → 3 ≤ length inst.words
+pub scalar_long : (inst : Inst) → is_scalar inst.op ≡ true → is_some (kinds inst) ≡ true → 3 ≤ length inst.words
 unfolding class_of kinds
 scalar_long inst is fits = long_entry inst.op (entry_of inst.op) inst.words is (long_row inst.op) fits
 
@@ -110,7 +110,7 @@ scalar_long inst is fits = long_entry inst.op (entry_of inst.op) inst.words is (
 same_inst : (a b : Inst) → ◌≡◌ {A = Option Inst} (Some a) (Some b) → a ≡ b
 same_inst a b is = cc
 
-constant_short : (type id : ℕ) (value : Value) (constant : Inst) → scalar_constant type id (Some value) ≡ Some constant → length constant.words ≤ 3
+pub constant_short : (type id : ℕ) (value : Value) (constant : Inst) → scalar_constant type id (Some value) ≡ Some constant → length constant.words ≤ 3
 constant_short type id (Truth true) constant is = subst (λ (i : Inst). length i.words ≤ 3) (same_inst _ constant is) (omega arith)
 constant_short type id (Truth false) constant is = subst (λ (i : Inst). length i.words ≤ 3) (same_inst _ constant is) (omega arith)
 constant_short type id (Word word) constant is = subst (λ (i : Inst). length i.words ≤ 3) (same_inst _ constant is) (omega arith)
@@ -120,13 +120,13 @@ constant_short type id Outside constant is = cc
 
 -- ---- all of them
 
-abbrev size : List Inst → ℕ
+abbrev pub size : List Inst → ℕ
 size insts = length (flat_map words_of insts)
 
-size_more : (inst : Inst) (insts : List Inst) → size (inst ∷ insts) ≡ length inst.words + 1 + size insts
+pub size_more : (inst : Inst) (insts : List Inst) → size (inst ∷ insts) ≡ length inst.words + 1 + size insts
 size_more inst insts = let e = length-append (words_of inst) (flat_map words_of insts) in omega (arith, e)
 
-size_both : (xs ys : List Inst) → size (xs ++ ys) ≡ size xs + size ys
+pub size_both : (xs ys : List Inst) → size (xs ++ ys) ≡ size xs + size ys
 size_both xs ys = ap length (flat_map-append words_of xs ys) ∙ length-append (flat_map words_of xs) (flat_map words_of ys)
 
 size_without : (insts : List Inst) (gone : ℕ) → gone < length insts → size insts ≡ size (without_one gone insts) + (length (inst_at insts gone).words + 1)
@@ -141,7 +141,7 @@ size_without (inst ∷ insts) (suc gone) within =
     sum_of : (a b c e n k : ℕ) → a ≡ n + b → b ≡ e + k → c ≡ n + e → a ≡ c + k
     sum_of a b c e n k p q r = omega (arith, p, q, r)
 
-whole_size : (insts : List Inst) (bound : ℕ) → length (module_words insts bound) ≡ 5 + size insts
+pub whole_size : (insts : List Inst) (bound : ℕ) → length (module_words insts bound) ≡ 5 + size insts
 whole_size insts bound = omega arith
 
 no_more : (new old level constant function without gone rest : ℕ) → new ≡ level + (constant + 1 + (function + 1 + without)) → old ≡ level + (function + 1 + rest) → rest ≡ without + (gone + 1) → constant ≤ gone → new ≤ old

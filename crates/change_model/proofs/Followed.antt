@@ -9,9 +9,9 @@ use Rattle.stage_model.specs.declared.outcome.Kind.{Kind}
 use Rattle.stage_model.specs.Program.{Program, program_of}
 use Rattle.stage_model.specs.Machine.{State, Machine, Step, GoesOn, Ends, step, end_after, run}
 use Rattle.stage_model.specs.Steps.{Steps, stays, goes}
-use Rattle.stage_model.specs.Stage.{Given, start_at, first_label, outcome_of, enough_steps, stage}
+use Rattle.stage_model.specs.Stage.{Given, Outcome, start_at, first_label, outcome_of, enough_steps, stage}
 use Rattle.stage_model.proofs.EnoughSteps.{EndsOrIsStuck, enough, steps_left}
-use Rattle.change_model.specs.Keeping.{IsKept, KeepsOutcome}
+use Rattle.change_model.specs.Keeping.{KeepsOutcomeBy}
 use Rattle.change_model.specs.Following.{Moves, Round, returns, ends, stops, Follows}
 
 -- ---- runs and steps
@@ -60,43 +60,43 @@ never_stuck program (suc j) m at r runs (goes next is more) stuck =
 -- ---- ends
 
 -- a machine comes to an end, and what is left there is the outcome of the old side but for steps that are spared
-pub record EndsAlike (new old : Program) (m : Machine) (kind : Kind) (after : State) : Type 0 where
+pub record EndsAlike (Kept : Outcome → Outcome → Type 0) (new old : Program) (m : Machine) (kind : Kind) (after : State) : Type 0 where
   pub left : State
   pub steps : ℕ
   pub is : run steps new m ≡ Some (kind, left)
-  pub kept : IsKept (outcome_of new (kind, left)) (outcome_of old (kind, after))
+  pub kept : Kept (outcome_of new (kind, left)) (outcome_of old (kind, after))
 
-earlier : (new old : Program) (m n : Machine) (kind : Kind) (after : State) → Steps new m n → EndsAlike new old n kind after → EndsAlike new old m kind after
-earlier new old m n kind after (stays is) e = subst (λ m. EndsAlike new old m kind after) (sym is) e
-earlier new old m n kind after (goes next is more) e =
-    let f = earlier new old next n kind after more e in
+earlier : (Kept : Outcome → Outcome → Type 0) (new old : Program) (m n : Machine) (kind : Kind) (after : State) → Steps new m n → EndsAlike Kept new old n kind after → EndsAlike Kept new old m kind after
+earlier Kept new old m n kind after (stays is) e = subst (λ m. EndsAlike Kept new old m kind after) (sym is) e
+earlier Kept new old m n kind after (goes next is more) e =
+    let f = earlier Kept new old next n kind after more e in
     record { left = f.left; steps = suc f.steps; is = ap (λ (s : Option Step). end_after s (run f.steps new)) is ∙ f.is; kept = f.kept }
 
-ended : (new old : Program) (at : Machine) (kind other : Kind) (after left left' : State) → step new at ≡ Some (Ends kind left) → kind ≡ other → left' ≡ after → IsKept (outcome_of new (kind, left)) (outcome_of old (kind, left'))
-    → EndsAlike new old at other after
-ended new old at kind other after left left' at_end is same kept =
-    subst (EndsAlike new old at other) same
-    (subst (λ k. EndsAlike new old at k left') is (record { left = left; steps = suc zero; is = ap (λ (s : Option Step). end_after s (run zero new)) at_end; kept = kept }))
+ended : (Kept : Outcome → Outcome → Type 0) (new old : Program) (at : Machine) (kind other : Kind) (after left left' : State) → step new at ≡ Some (Ends kind left) → kind ≡ other → left' ≡ after → Kept (outcome_of new (kind, left)) (outcome_of old (kind, left'))
+    → EndsAlike Kept new old at other after
+ended Kept new old at kind other after left left' at_end is same kept =
+    subst (EndsAlike Kept new old at other) same
+    (subst (λ k. EndsAlike Kept new old at k left') is (record { left = left; steps = suc zero; is = ap (λ (s : Option Step). end_after s (run zero new)) at_end; kept = kept }))
 
-follow_within : (new old : Program) (Related : Machine → Machine → Type 0) → Follows new old Related → (limit : ℕ) (m n : Machine) (kind : Kind) (after : State) → Related m n → EndsWithin old n kind after limit → EndsAlike new old m kind after
-follow_within new old Related follows zero m n kind after related e = let few = e.few in absurd (omega (arith, few))
-follow_within new old Related follows (suc limit) m n kind after related e =
-    by_round (λ m' n' again within. follow_within new old Related follows limit m' n' kind after again within) (follows m n related)
+follow_within : (Kept : Outcome → Outcome → Type 0) (new old : Program) (Related : Machine → Machine → Type 0) → Follows Kept new old Related → (limit : ℕ) (m n : Machine) (kind : Kind) (after : State) → Related m n → EndsWithin old n kind after limit → EndsAlike Kept new old m kind after
+follow_within Kept new old Related follows zero m n kind after related e = let few = e.few in absurd (omega (arith, few))
+follow_within Kept new old Related follows (suc limit) m n kind after related e =
+    by_round (λ m' n' again within. follow_within Kept new old Related follows limit m' n' kind after again within) (follows m n related)
   where
-    by_round : ((m' n' : Machine) → Related m' n' → EndsWithin old n' kind after limit → EndsAlike new old m' kind after) → Round new old Related m n → EndsAlike new old m kind after
+    by_round : ((m' n' : Machine) → Related m' n' → EndsWithin old n' kind after limit → EndsAlike Kept new old m' kind after) → Round Kept new old Related m n → EndsAlike Kept new old m kind after
     by_round further (returns m' n' comes moves again) =
         let f = moved old n n' kind after e.steps moves e.is in
-        earlier new old m m' kind after comes
+        earlier Kept new old m m' kind after comes
         (further m' n' again (record { steps = f.steps; few = let a = e.few in let b = f.few in omega (arith, a, b); is = f.is }))
     by_round further (ends own left left' comes finishes kept) =
         let f = later old n finishes.at kind after (suc limit) finishes.comes e in
         let same = end_is old finishes.at own kind left' after f.steps finishes.stops f.is in
-        earlier new old m comes.at kind after comes.comes (ended new old comes.at own kind after left left' comes.stops same.0 same.1 kept)
+        earlier Kept new old m comes.at kind after comes.comes (ended Kept new old comes.at own kind after left left' comes.stops same.0 same.1 kept)
     by_round further (stops stuck) = absurd (never_stuck old e.steps n stuck.at (kind, after) e.is stuck.comes stuck.stuck)
 
 -- a machine that follows another one ends as that one ends
-pub follow : (new old : Program) (Related : Machine → Machine → Type 0) → Follows new old Related → (m n : Machine) → Related m n → (steps : ℕ) (kind : Kind) (after : State) → run steps old n ≡ Some (kind, after) → EndsAlike new old m kind after
-follow new old Related follows m n related steps kind after is = follow_within new old Related follows (suc steps) m n kind after related (record { steps = steps; few = omega arith; is = is })
+pub follow : (Kept : Outcome → Outcome → Type 0) (new old : Program) (Related : Machine → Machine → Type 0) → Follows Kept new old Related → (m n : Machine) → Related m n → (steps : ℕ) (kind : Kind) (after : State) → run steps old n ≡ Some (kind, after) → EndsAlike Kept new old m kind after
+follow Kept new old Related follows m n related steps kind after is = follow_within Kept new old Related follows (suc steps) m n kind after related (record { steps = steps; few = omega arith; is = is })
 
 -- ---- outcomes
 
@@ -145,14 +145,14 @@ unfolding stage
 stage_at insts given first is = ap (option_and_then (λ first. option_map (outcome_of (program_of insts)) (run (enough_steps insts) (program_of insts) (start_at (program_of insts) given first)))) is
 
 -- where the machine of one list follows that of another from their first labels on, what the latter leaves is kept
-pub stage_followed : (new old : List Inst) (Related : Machine → Machine → Type 0) → Follows (program_of new) (program_of old) Related
+pub stage_followed : (Kept : Outcome → Outcome → Type 0) (new old : List Inst) (Related : Machine → Machine → Type 0) → Follows Kept (program_of new) (program_of old) Related
     → (given given' : Given) (first first' : ℕ) → first_label new ≡ Some first → first_label old ≡ Some first'
-    → Related (start_at (program_of new) given first) (start_at (program_of old) given' first') → KeepsOutcome (stage new given) (stage old given')
-stage_followed new old Related follows given given' first first' at at' related = λ outcome is.
+    → Related (start_at (program_of new) given first) (start_at (program_of old) given' first') → KeepsOutcomeBy Kept (stage new given) (stage old given')
+stage_followed Kept new old Related follows given given' first first' at at' related = λ outcome is.
     let p = program_of new in let q = program_of old in
     let m = start_at p given first in
     let f = found (outcome_of q) (run (enough_steps old) q (start_at q given' first')) outcome (sym (stage_at old given' first' at') ∙ is) in
-    let e = follow p q Related follows m (start_at q given' first') related (enough_steps old) f.0.0 f.0.1 f.1 in
+    let e = follow Kept p q Related follows m (start_at q given' first') related (enough_steps old) f.0.0 f.0.1 f.1 in
     let few : m.state.back_edges < BACK_EDGES = subst (λ n. n < BACK_EDGES) (sym (start_is_first new given first)) (omega arith) in
     let r = by_end p e.steps (enough_steps new) m (f.0.0, e.left) e.is (enough (enough_steps new) p m few (no_fewer new given first)) in
-    (outcome_of p (f.0.0, e.left), stage_at new given first at ∙ ap (option_map (outcome_of p)) r, subst (IsKept (outcome_of p (f.0.0, e.left))) f.2 e.kept)
+    (outcome_of p (f.0.0, e.left), stage_at new given first at ∙ ap (option_map (outcome_of p)) r, subst (Kept (outcome_of p (f.0.0, e.left))) f.2 e.kept)

@@ -27,7 +27,6 @@ use Rattle.stage_model.specs.Stage.{Given, Outcome, start_at, first_label, outco
 use Rattle.typed_model.specs.Running.{IsRunning}
 use Rattle.typed_model.proofs.BlockParts.{clash}
 use Rattle.typed_model.proofs.RunningDoes.{running_does}
-use Rattle.typed_model.proofs.RunningGoes.{running_goes}
 use Rattle.typed_model.proofs.RunningStart.{first_label_is, running_start}
 use Rattle.change_model.specs.Keeping.{IsKept, KeepsOutcome}
 use Rattle.change_model.specs.Following.{Round, returns, ends, stops, Follows}
@@ -35,6 +34,7 @@ use Rattle.change_model.specs.Programs.{AreProgramsAlike}
 use Rattle.change_model.proofs.Followed.{same_insts, stage_followed}
 use Rattle.change_model.proofs.GivenResults.{gives_result}
 use Rattle.change_model.proofs.KnownResults.{beside, StaysKnown, GivesOther, still_known, done_beside, given_own, known_now, without_one, moved, get_moved, label_moved, back_same}
+use Rattle.change_model.proofs.MachineSteps.{step_is, still_running}
 use Rattle.change_model.proofs.SameFunction.{label_behind_front}
 use Rattle.change_model.proofs.SameStarts.{outcome_same}
 use Rattle.change_model.proofs.SettledValues.{only_there}
@@ -128,18 +128,6 @@ one_step_more inst state (Stops kind) = refl
 
 -- ---- steps
 
-pub step_is : (program : Program) (m : Machine) (inst : Inst) (led_by : Flow × State) → slice_get program.insts m.place ≡ Some inst → done program inst m.state ≡ Some led_by → step program m ≡ led program m.place led_by
-unfolding step
-step_is program m inst led_by here does =
-    ap (λ (o : Option Inst). option_and_then (led program m.place) (option_and_then (λ (i : Inst). done program i m.state) o)) here ∙ ap (option_and_then (led program m.place)) does
-
-same_step : (found : Option Step) (a b : Step) → found ≡ Some a → found ≡ Some b → a ≡ b
-same_step found a b is also = cc
-
-still_running : (words : Words) (v : IsValidList words) (n next : Machine) → IsRunning words.insts v.derivation n → step (program_of words.insts) n ≡ Some (GoesOn next) → IsRunning words.insts v.derivation next
-still_running words v n next r is =
-    let g = running_goes words v n r in g.on next (same_step (step (program_of words.insts) n) g.to (GoesOn next) g.is is)
-
 labels_are : (insts : List Inst) (label : ℕ) → (program_of insts).label_place label ≡ first_label_place insts label
 unfolding program_of
 labels_are insts label = refl
@@ -168,7 +156,7 @@ edged_beside own value state steps = refl
 pushed_to : (words : Words) (v : IsValidList words) (p : Program) → AreProgramsAlike p (program_of words.insts) → (first first' gone own : ℕ) (value : Value) (Holds : State → Type 0) → GivesKnown words v (first' + gone) own value Holds
     → (m n : Machine) (state : State) (steps far : ℕ) → IsRunning words.insts v.derivation n → Holds n.state → StaysKnown own value state → steps ≤ state.steps
     → step p m ≡ Some (GoesOn (machine (first + moved gone far) (beside own value state steps))) → step (program_of words.insts) n ≡ Some (GoesOn (machine (first' + far) state))
-    → Round p (program_of words.insts) (AreBeside words v first first' gone own value Holds) m n
+    → Round IsKept p (program_of words.insts) (AreBeside words v first first' gone own value Holds) m n
 pushed_to words v p alike first first' gone own value Holds g m n state steps far running holds known few is is' =
     returns (machine (first + moved gone far) (beside own value state steps)) (machine (first' + far) state) (one_step p m (machine (first + moved gone far) (beside own value state steps)) is)
     (record { next = machine (first' + far) state; goes = is'; comes = stays refl })
@@ -185,7 +173,7 @@ pushed_to words v p alike first first' gone own value Holds g m n state steps fa
 
 ended_at : (words : Words) (v : IsValidList words) (p : Program) → AreProgramsAlike p (program_of words.insts) → (first first' gone own : ℕ) (value : Value) (Holds : State → Type 0)
     → (m n : Machine) (kind : Kind) (state : State) (steps : ℕ) → steps ≤ state.steps → step p m ≡ Some (Ends kind (beside own value state steps)) → step (program_of words.insts) n ≡ Some (Ends kind state)
-    → Round p (program_of words.insts) (AreBeside words v first first' gone own value Holds) m n
+    → Round IsKept p (program_of words.insts) (AreBeside words v first first' gone own value Holds) m n
 ended_at words v p alike first first' gone own value Holds m n kind state steps few is is' =
     ends kind (beside own value state steps) state (record { at = m; comes = stays refl; stops = is }) (record { at = n; comes = stays refl; stops = is' }) (kept_beside p (program_of words.insts) alike own value kind state steps few)
 
@@ -200,7 +188,7 @@ jumped : (words : Words) (v : IsValidList words) (p : Program) → AreProgramsAl
     → (m n : Machine) (state : State) (steps to : ℕ) → IsRunning words.insts v.derivation n → Holds n.state → StaysKnown own value state → steps ≤ state.steps → (back full : Bool) → nat_le BACK_EDGES (state.back_edges + 1) ≡ full
     → step p m ≡ Some (if back then back_to (first + moved gone to) (beside own value state steps) else at (first + moved gone to) (beside own value state steps))
     → step (program_of words.insts) n ≡ Some (if back then back_to (first' + to) state else at (first' + to) state)
-    → Round p (program_of words.insts) (AreBeside words v first first' gone own value Holds) m n
+    → Round IsKept p (program_of words.insts) (AreBeside words v first first' gone own value Holds) m n
 unfolding edged
 jumped words v p alike first first' gone own value Holds g m n state steps to running holds known few false full edges is is' =
     pushed_to words v p alike first first' gone own value Holds g m n state steps to running holds known few is is'
@@ -219,7 +207,7 @@ jumped words v p alike first first' gone own value Holds g m n state steps to ru
 led_beside : (words : Words) (v : IsValidList words) (new : List Inst) → AreProgramsAlike (program_of new) (program_of words.insts) → (first first' gone own : ℕ) (value : Value) (Holds : State → Type 0) → LeavesOut new words.insts first first' gone
     → GivesKnown words v (first' + gone) own value Holds → (m n : Machine) (far : ℕ) → (far ≡ gone → ⊥) → (flow : Flow) (state : State) (steps : ℕ) → IsRunning words.insts v.derivation n → Holds n.state → StaysKnown own value state → steps ≤ state.steps
     → step (program_of new) m ≡ led (program_of new) (first + moved gone far) (flow, beside own value state steps) → step (program_of words.insts) n ≡ led (program_of words.insts) (first' + far) (flow, state)
-    → Round (program_of new) (program_of words.insts) (AreBeside words v first first' gone own value Holds) m n
+    → Round IsKept (program_of new) (program_of words.insts) (AreBeside words v first first' gone own value Holds) m n
 led_beside words v new alike first first' gone own value Holds l g m n far other Next state steps running holds known few is is' =
     pushed_to words v (program_of new) alike first first' gone own value Holds g m n state steps (far + 1) running holds known few
     (is ∙ ap (λ (k : ℕ). Some (at k (beside own value state steps))) (place_on first (moved gone far) ∙ ap (λ (k : ℕ). first + k) (sym (moved_on gone far other))))
@@ -247,7 +235,7 @@ led_beside words v new alike first first' gone own value Holds l g m n far other
     there = labels_are new label ∙ label_behind_front new first label l.within l.front ∙ ap (λ (i : List Inst). option_map (λ (k : ℕ). first + k) (first_label_place i label)) l.same
         ∙ ap (option_map (λ (k : ℕ). first + k)) (label_moved rest gone label l.there l.no_label)
 
-    by_place : (found : Option ℕ) → first_label_place rest label ≡ found → Round p q (AreBeside words v first first' gone own value Holds) m n
+    by_place : (found : Option ℕ) → first_label_place rest label ≡ found → Round IsKept p q (AreBeside words v first first' gone own value Holds) m n
     by_place None none = stops (record {
       at = n;
       comes = stays refl;
@@ -296,7 +284,7 @@ is_machine m place state is same = ap (λ (n : ℕ). machine n m.state) is ∙ a
 
 -- at another instruction both take a step
 other_round : (words : Words) (v : IsValidList words) (new : List Inst) → AreProgramsAlike (program_of new) (program_of words.insts) → (first first' gone own : ℕ) (value : Value) (Holds : State → Type 0) → LeavesOut new words.insts first first' gone
-    → GivesKnown words v (first' + gone) own value Holds → (m n : Machine) → (r : AreBeside words v first first' gone own value Holds m n) → (r.far ≡ gone → ⊥) → Round (program_of new) (program_of words.insts) (AreBeside words v first first' gone own value Holds) m n
+    → GivesKnown words v (first' + gone) own value Holds → (m n : Machine) → (r : AreBeside words v first first' gone own value Holds m n) → (r.far ≡ gone → ⊥) → Round IsKept (program_of new) (program_of words.insts) (AreBeside words v first first' gone own value Holds) m n
 other_round words v new alike first first' gone own value Holds l g m n r other =
     let p = program_of new in let q = program_of words.insts in
     let rest = drop first' words.insts in
@@ -323,7 +311,7 @@ other_round words v new alike first first' gone own value Holds l g m n r other 
 
 -- at the instruction that is gone the old one alone takes a step
 own_round : (words : Words) (v : IsValidList words) (new : List Inst) (first first' gone own : ℕ) (value : Value) (Holds : State → Type 0) → GivesKnown words v (first' + gone) own value Holds
-    → (m n : Machine) → (r : AreBeside words v first first' gone own value Holds m n) → r.far ≡ gone → Round (program_of new) (program_of words.insts) (AreBeside words v first first' gone own value Holds) m n
+    → (m n : Machine) → (r : AreBeside words v first first' gone own value Holds m n) → r.far ≡ gone → Round IsKept (program_of new) (program_of words.insts) (AreBeside words v first first' gone own value Holds) m n
 own_round words v new first first' gone own value Holds g m n r is =
     let x = inst_at words.insts (first' + gone) in
     let after = (after_effect x n.state (Gives value)).1 in
@@ -342,7 +330,7 @@ own_round words v new first first' gone own value Holds g m n r is =
     })
 
 follows_beside : (words : Words) (v : IsValidList words) (new : List Inst) → AreProgramsAlike (program_of new) (program_of words.insts) → (first first' gone own : ℕ) (value : Value) (Holds : State → Type 0) → LeavesOut new words.insts first first' gone
-    → GivesKnown words v (first' + gone) own value Holds → Follows (program_of new) (program_of words.insts) (AreBeside words v first first' gone own value Holds)
+    → GivesKnown words v (first' + gone) own value Holds → Follows IsKept (program_of new) (program_of words.insts) (AreBeside words v first first' gone own value Holds)
 follows_beside words v new alike first first' gone own value Holds l g m n r = elim (cases_lt r.far gone) [
   | inl less ↦ other_round words v new alike first first' gone own value Holds l g m n r (λ e. absurd (omega (arith, less, e)))
   | inr rest ↦ elim (cases_lt gone r.far) [
@@ -363,7 +351,7 @@ pub known_result_keeps : (words : Words) (v : IsValidList words) (new : List Ins
     → Holds (start_at (program_of words.insts) given' (v.derivation.before + 1)).state → KeepsOutcome (stage new given) (stage words.insts given')
 known_result_keeps words v new alike first gone own value Holds at_first l g given given' start none known holds =
     let first' = v.derivation.before + 1 in
-    stage_followed new words.insts (AreBeside words v first first' gone own value Holds) (follows_beside words v new alike first first' gone own value Holds l g) given given' first first' at_first (first_label_is words.insts v.derivation)
+    stage_followed IsKept new words.insts (AreBeside words v first first' gone own value Holds) (follows_beside words v new alike first first' gone own value Holds l g) given given' first first' at_first (first_label_is words.insts v.derivation)
     (record {
       far = 0;
       place' = start_place words.insts given' first' ∙ plus_zero first';

@@ -148,7 +148,7 @@ same_kept : (p q : Program) → AreProgramsAlike p q → (kind : Kind) (state : 
 same_kept p q s kind state = subst (IsKept (outcome_of p (kind, state))) (outcome_same p q s kind state) (kept_same (outcome_of p (kind, state)))
 
 to_round : (p q : Program) → AreProgramsAlike p q → (first first' : ℕ) (m n : Machine) {found found' : Option Step} → SameStep first first' found found' → step p m ≡ found → step q n ≡ found'
-    → Round p q (AreTogether first first') m n
+    → Round IsKept p q (AreTogether first first') m n
 to_round p q s first first' m n no_step is is' = stops (record { at = n; comes = stays refl; stuck = is' })
 to_round p q s first first' m n (goes far state) is is' =
     returns (machine (first + far) state) (machine (first' + far) state) (one_step p m (machine (first + far) state) is) (record { next = machine (first' + far) state; goes = is'; comes = stays refl })
@@ -160,7 +160,7 @@ is_machine : (m : Machine) (place : ℕ) (state : State) → m.place ≡ place �
 is_machine m place state is same = ap (λ (n : ℕ). machine n m.state) is ∙ ap (machine place) same
 
 follows_together : (new old : List Inst) (first first' : ℕ) → HaveSameFunction new old first first' → AreProgramsAlike (program_of new) (program_of old)
-    → Follows (program_of new) (program_of old) (AreTogether first first')
+    → Follows IsKept (program_of new) (program_of old) (AreTogether first first')
 follows_together new old first first' f s m n t =
     let p = program_of new in let q = program_of old in
     to_round p q s first first' m n (together_step new old first first' f s t.far n.state)
@@ -174,5 +174,5 @@ start_place insts given first = omega arith
 pub same_function_keeps : (new old : List Inst) (given given' : Given) (first first' : ℕ) → first_label new ≡ Some first → first_label old ≡ Some first' → HaveSameFunction new old first first'
     → AreProgramsAlike (program_of new) (program_of old) → (start_at (program_of new) given first).state ≡ (start_at (program_of old) given' first').state → KeepsOutcome (stage new given) (stage old given')
 same_function_keeps new old given given' first first' at at' f s start =
-    stage_followed new old (AreTogether first first') (follows_together new old first first' f s) given given' first first' at at'
+    stage_followed IsKept new old (AreTogether first first') (follows_together new old first first' f s) given given' first first' at at'
     (record { far = 0; place = start_place new given first; place' = start_place old given' first'; state = start })

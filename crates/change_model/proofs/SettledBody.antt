@@ -62,10 +62,10 @@ label_there (inst ∷ insts) label among = by_test (label_there insts label) (in
     by_test rest false isnt = further inst insts label (rest (sym (ap (is_among label) (labels_more inst insts false isnt)) ∙ among))
 
 -- no two labels are equal
-abbrev LabelsDiffer : List Inst → Type 0
+abbrev pub LabelsDiffer : List Inst → Type 0
 LabelsDiffer insts = (k n : ℕ) → k < n → n < length insts → (inst_at insts k).op == op.LABEL ≡ true → (inst_at insts n).op == op.LABEL ≡ true → word_at 0 (inst_at insts k) ≡ word_at 0 (inst_at insts n) → ⊥
 
-differ : (insts : List Inst) → LabelsDiffer insts → repeat (labels insts) ≡ false
+pub differ : (insts : List Inst) → LabelsDiffer insts → repeat (labels insts) ≡ false
 differ [] different = refl
 differ (inst ∷ insts) different = by_test (differ insts (λ k n less within. different (suc k) (suc n) (omega (arith, less)) (omega (arith, within)))) (inst.op == op.LABEL) refl
   where
@@ -86,15 +86,19 @@ label_words words = refl
 label_result : (inst : Inst) → inst.op == op.LABEL ≡ true → result inst ≡ Some (word_at 0 inst)
 label_result inst is = ap (λ (o : ℕ). result (record { op = o; words = inst.words })) (op_is inst.op op.LABEL is) ∙ label_words inst.words
 
-pub labels_differ : (words : Words) → type_fault words ≡ None → repeat (labels words.insts) ≡ false
-labels_differ words sound = differ words.insts (λ k n less within is also equal.
+-- no label stands twice in a list that is sound
+pub labels_apart : (words : Words) → type_fault words ≡ None → LabelsDiffer words.insts
+labels_apart words sound k n less within is also equal =
     let here = defined_at words.insts k (word_at 0 (inst_at words.insts k)) (omega (arith, less, within)) (label_result (inst_at words.insts k) is) (keeps_rules words sound k (omega (arith, less, within))).once in
     let there = defined_at words.insts n (word_at 0 (inst_at words.insts n)) within (label_result (inst_at words.insts n) also) (keeps_rules words sound n within).once in
     let one : k ≡ n = one_place k n (definition words.insts (word_at 0 (inst_at words.insts n))) (ap (definition words.insts) (sym equal) ∙ here) there in
-    omega (arith, less, one))
+    omega (arith, less, one)
   where
     one_place : (a b : ℕ) (found : Option ℕ) → found ≡ Some a → found ≡ Some b → a ≡ b
     one_place a b found first second = cc
+
+pub labels_differ : (words : Words) → type_fault words ≡ None → repeat (labels words.insts) ≡ false
+labels_differ words sound = differ words.insts (labels_apart words sound)
 
 -- ---- the module's level
 

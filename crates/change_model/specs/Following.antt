@@ -6,8 +6,7 @@ use Rattle.stage_model.specs.Start.{Values, Memory}
 use Rattle.stage_model.specs.Machine.{State, Machine, GoesOn, step}
 use Rattle.stage_model.specs.Steps.{Steps, IsStuck}
 use Rattle.stage_model.specs.Leads.{Stops}
-use Rattle.stage_model.specs.Stage.{outcome_of}
-use Rattle.change_model.specs.Keeping.{IsKept}
+use Rattle.stage_model.specs.Stage.{Outcome, outcome_of}
 
 -- ---- states
 
@@ -38,14 +37,14 @@ pub record Moves (program : Program) (from to : Machine) : Type 0 where
   pub goes : step program from ≡ Some (GoesOn next)
   pub comes : Steps program next to
 
--- What two machines come to: the old one moves, and the new one comes to a machine that is related to it again; or both end alike; or
--- the old one leaves nothing.
-pub data Round (new old : Program) (Related : Machine → Machine → Type 0) : Machine → Machine → Type 0 where
-  returns : {m n : Machine} (m' n' : Machine) → Steps new m m' → Moves old n n' → Related m' n' → Round new old Related m n
+-- What two machines come to: the old one moves, and the new one comes to a machine that is related to it again; or both end, and what the
+-- new one leaves is kept; or the old one leaves nothing.
+pub data Round (Kept : Outcome → Outcome → Type 0) (new old : Program) (Related : Machine → Machine → Type 0) : Machine → Machine → Type 0 where
+  returns : {m n : Machine} (m' n' : Machine) → Steps new m m' → Moves old n n' → Related m' n' → Round Kept new old Related m n
   ends : {m n : Machine} (kind : Kind) (after after' : State) → Stops new m.place m.state kind after → Stops old n.place n.state kind after'
-      → IsKept (outcome_of new (kind, after)) (outcome_of old (kind, after')) → Round new old Related m n
-  stops : {m n : Machine} → IsStuck old n → Round new old Related m n
+      → Kept (outcome_of new (kind, after)) (outcome_of old (kind, after')) → Round Kept new old Related m n
+  stops : {m n : Machine} → IsStuck old n → Round Kept new old Related m n
 
 -- the new machine follows the old one: wherever they are related, they come to machines that are related again, or end alike
-abbrev pub Follows : (new old : Program) → (Machine → Machine → Type 0) → Type 0
-Follows new old Related = (m n : Machine) → Related m n → Round new old Related m n
+abbrev pub Follows : (Outcome → Outcome → Type 0) → (new old : Program) → (Machine → Machine → Type 0) → Type 0
+Follows Kept new old Related = (m n : Machine) → Related m n → Round Kept new old Related m n

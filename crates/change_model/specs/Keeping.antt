@@ -1,5 +1,5 @@
 -- When one module may stand for another: whatever it is given, it leaves the same, in no more steps and no more words.
-use Rattle.std.specs.Prelude.{◌≡◌, ℕ, ◌≤◌, true, List, [], length, slice_index, slice_index_or, Option, Some}
+use Rattle.std.specs.Prelude.{◌≡◌, ℕ, ◌≤◌, Bool, true, false, List, [], length, slice_index, slice_index_or, Option, Some}
 use Rattle.spirv_model.specs.declared.module.Inst.{Inst}
 use Rattle.spirv_model.specs.declared.module.Words.{Words}
 use Rattle.spirv_model.specs.Module.{module_words}
@@ -26,9 +26,24 @@ pub record IsKept (new old : Outcome) : Type 0 where
   pub back_edges : new.back_edges ≡ old.back_edges
   pub work : new.work ≤ old.work
 
--- where the second has an outcome, the first has it too
+-- the same, but for the position, if nobody reads it, and for slots that nobody reads
+pub record IsKeptBut (is_unread_position : Bool) (is_unread : ℕ → Bool) (new old : Outcome) : Type 0 where
+  pub kind : new.kind ≡ old.kind
+  pub position : is_unread_position ≡ false → new.position ≡ old.position
+  pub locations : length new.slots ≡ length old.slots
+  pub slots : (location : ℕ) → is_unread location ≡ false → slice_index_or new.slots location [] ≡ slice_index_or old.slots location []
+  pub back_edges : new.back_edges ≡ old.back_edges
+  pub work : new.work ≤ old.work
+
+-- where the second has an outcome, the first has one too that is kept by a relation
+abbrev pub KeepsOutcomeBy : (Outcome → Outcome → Type 0) → Option Outcome → Option Outcome → Type 0
+KeepsOutcomeBy Kept new old = (outcome : Outcome) → old ≡ Some outcome → (kept : Outcome) × (new ≡ Some kept) × Kept kept outcome
+
 abbrev pub KeepsOutcome : Option Outcome → Option Outcome → Type 0
-KeepsOutcome new old = (outcome : Outcome) → old ≡ Some outcome → (kept : Outcome) × (new ≡ Some kept) × IsKept kept outcome
+KeepsOutcome new old = KeepsOutcomeBy IsKept new old
+
+abbrev pub KeepsOutcomeBut : Bool → (ℕ → Bool) → Option Outcome → Option Outcome → Type 0
+KeepsOutcomeBut is_unread_position is_unread new old = KeepsOutcomeBy (IsKeptBut is_unread_position is_unread) new old
 
 -- the new module with some entries does what the old one does with its own ones, for all inputs that are zeros at these locations
 pub record Keeps (zeros : List ℕ) (new : Words) (settled : SpecValues) (old : Words) (entries : SpecValues) : Type 0 where

@@ -13,7 +13,7 @@ use Rattle.check_model.specs.Interfaces.{inputs_of, outputs_of}
 use Rattle.trace_model.specs.declared.whole.Library.{Library}
 use Rattle.trace_model.specs.declared.whole.Library.TheVariants as library
 use Rattle.trace_model.specs.declared.whole.Trace.{Trace}
-use Rattle.trace_model.specs.LawfulPlay.{IsLibrary, LawfulTrace}
+use Rattle.trace_model.specs.LawfulPlay.{IsLibrary}
 use Rattle.trace_model.specs.Pipes.{vertex_in, output_in, prerast_in, fragment_in, libraries_by_subset, pipe_libraries}
 use Rattle.link_rules.specs.Parts.{HoldsLawfulParts}
 use Rattle.gpl_play.specs.Links.{with_modules, libraries_given, with_library, libraries_at, HasObjects}
@@ -109,11 +109,6 @@ lawful_more modules libs library is h =
       fragment = All-append (λ (f : FragmentLibrary). IsFragmentPart f.part) libs.fragment more.fragment h.fragment one.fragment;
       output = All-append IsOutputPart libs.output more.output h.output one.output;
     }
-
--- the libraries of a lawful trace, by its modules
-pub libraries_lawful : (trace : Trace) (modules : List Words) (libs : List Library) → LawfulTrace trace → trace.modules ≡ modules → trace.libs ≡ libs → All (IsLibrary modules) libs
-libraries_lawful trace modules libs lawful modules_are libs_are =
-    subst (λ (ms : List Words). All (IsLibrary ms) libs) modules_are (subst (All (IsLibrary trace.modules)) libs_are lawful.libraries)
 
 -- ---- the libraries of a pipe, one after the other
 

@@ -31,7 +31,8 @@ pub fn draw(
         state.now dynamic.now call.now buffers.now targets.old }
     ensures image { OnOk result (targets.new ≡ image unit.now.vertex.insts (fragment_insts unit.now)
         state.now dynamic.now call.now buffers.now targets.old) }
-    ensures work { IfOk result (λ work. work ≡ effort unit.now.vertex.insts (fragment_insts unit.now)
+    ensures work { IfOk result (λ work. work
+        ≡ effort unit.now.vertex.insts (fragment_insts unit.now)
         state.now dynamic.now call.now buffers.now) }
     ensures err { OnErr result (targets.new ≡ targets.old) }
 {

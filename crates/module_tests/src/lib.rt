@@ -4,6 +4,8 @@
 #[cfg(test)]
 mod bad_modules;
 #[cfg(test)]
+mod change_tests;
+#[cfg(test)]
 mod decoration_tests;
 #[cfg(test)]
 mod faulty_bodies;

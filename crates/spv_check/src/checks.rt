@@ -148,7 +148,8 @@ fn checked_uses(
     requires tree { IsTreeOf words.insts body }
     requires ids { AreIdsOf words ids }
     requires for_each { length hidden.now ≡ length words.insts }
-    requires hidden { (d : Derives words.insts) → AreHidden (intervals_of d) words.insts hidden.now }
+    requires hidden { (d : Derives words.insts)
+        → AreHidden (intervals_of d) words.insts hidden.now }
     ensures { UnlessMemory is_memory (IsMadeOf words) (HasListFault words) result }
 {
     let vertex = is_vertex(words.insts.as_slice());

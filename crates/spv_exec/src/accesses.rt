@@ -40,7 +40,8 @@ pub fn put(frame: &mut [u32], place: usize, word: u32)
 
 /// Writes so many zeros from a place on.
 pub fn clear_words(frame: &mut [u32], place: usize, count: usize)
-    ensures { place + count ≤ length frame.old → frame.new ≡ written frame.old place (replicate count 0) }
+    ensures { place + count ≤ length frame.old
+        → frame.new ≡ written frame.old place (replicate count 0) }
 {
     if place > frame.len() || count > frame.len() - place {
         return;
@@ -52,7 +53,8 @@ pub fn clear_words(frame: &mut [u32], place: usize, count: usize)
 pub fn run_variable(of: &ModuleFrame<'_>, place: usize, frame: &mut [u32])
     requires gives { GivesSome (program_of of.now.insts) frame.old place }
     requires is { (inst_at of.now.insts place).op == op.VARIABLE ≡ true }
-    ensures { (held : Memory) (value : Value) → GivesAt (program_of of.now.insts) frame.old held place value
+    ensures { (held : Memory) (value : Value)
+        → GivesAt (program_of of.now.insts) frame.old held place value
         → frame.new ≡ written frame.old (frame_place (program_of of.now.insts) place) (in_frame (program_of of.now.insts) value) }
 {
     let _module = of.module();
@@ -93,7 +95,8 @@ fn along(of: &ModuleFrame<'_>, frame: &[u32], begin: u32, ty: u32, ids: &[u32]) 
 pub fn run_chain(of: &ModuleFrame<'_>, place: usize, frame: &mut [u32])
     requires gives { GivesSome (program_of of.now.insts) frame.old place }
     requires is { (inst_at of.now.insts place).op == op.ACCESS_CHAIN ≡ true }
-    ensures { (held : Memory) (value : Value) → GivesAt (program_of of.now.insts) frame.old held place value
+    ensures { (held : Memory) (value : Value)
+        → GivesAt (program_of of.now.insts) frame.old held place value
         → frame.new ≡ written frame.old (frame_place (program_of of.now.insts) place) (in_frame (program_of of.now.insts) value) }
 {
     let _module = of.module();
@@ -113,7 +116,8 @@ pub fn run_chain(of: &ModuleFrame<'_>, place: usize, frame: &mut [u32])
 pub fn run_load(of: &ModuleFrame<'_>, place: usize, frame: &mut [u32], memory: &[u32])
     requires gives { LoadsSome (program_of of.now.insts) frame.old memory.now place }
     requires is { (inst_at of.now.insts place).op == op.LOAD ≡ true }
-    ensures { (held : Memory) (value : Value) → ShowsMemory (program_of of.now.insts) memory.now held
+    ensures { (held : Memory) (value : Value)
+        → ShowsMemory (program_of of.now.insts) memory.now held
         → GivesAt (program_of of.now.insts) frame.old held place value
         → frame.new ≡ written frame.old (frame_place (program_of of.now.insts) place) (in_frame (program_of of.now.insts) value) }
 {
@@ -131,7 +135,8 @@ pub fn run_load(of: &ModuleFrame<'_>, place: usize, frame: &mut [u32], memory: &
 /// OpStore.
 pub fn run_store(of: &ModuleFrame<'_>, place: usize, frame: &[u32], memory: &mut [u32])
     requires stores { StoresSome (program_of of.now.insts) frame.now memory.old place }
-    ensures { (held : Memory) (effect : Effect) → StoresAt (program_of of.now.insts) frame.now memory.old held place effect
+    ensures { (held : Memory) (effect : Effect)
+        → StoresAt (program_of of.now.insts) frame.now memory.old held place effect
         → ShowsMemory (program_of of.now.insts) memory.new (memory_after held effect) }
 {
     let _module = of.module();

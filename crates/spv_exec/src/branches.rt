@@ -34,7 +34,8 @@ fn word_of(of: &ModuleFrame<'_>, id: u32, frame: &[u32]) -> u32
 /// The label to which the branch at a place goes (SPIR-V specification, OpBranch, OpBranchConditional and OpSwitch).
 pub fn target(of: &ModuleFrame<'_>, place: usize, frame: &[u32]) -> u32
     requires { place < length of.now.insts }
-    ensures { (label : ℕ) → IsValidList of.now → GoesAt (program_of of.now.insts) frame.now place label
+    ensures { (label : ℕ) → IsValidList of.now
+        → GoesAt (program_of of.now.insts) frame.now place label
         → result ≡ label }
 {
     let inst = of.inst(place);

@@ -20,7 +20,8 @@ use valid_model::Meaning;
 pub fn run_undef(of: &ModuleFrame<'_>, place: usize, frame: &mut [u32])
     requires gives { GivesSome (program_of of.now.insts) frame.old place }
     requires is { (inst_at of.now.insts place).op == op.UNDEF ≡ true }
-    ensures { (held : Memory) (value : Value) → GivesAt (program_of of.now.insts) frame.old held place value
+    ensures { (held : Memory) (value : Value)
+        → GivesAt (program_of of.now.insts) frame.old held place value
         → frame.new ≡ written frame.old (frame_place (program_of of.now.insts) place) (in_frame (program_of of.now.insts) value) }
 {
     let _module = of.module();
@@ -33,7 +34,8 @@ pub fn run_undef(of: &ModuleFrame<'_>, place: usize, frame: &mut [u32])
 pub fn run_shuffle(of: &ModuleFrame<'_>, place: usize, frame: &mut [u32])
     requires gives { GivesSome (program_of of.now.insts) frame.old place }
     requires is { (inst_at of.now.insts place).op == op.VECTOR_SHUFFLE ≡ true }
-    ensures { (held : Memory) (value : Value) → GivesAt (program_of of.now.insts) frame.old held place value
+    ensures { (held : Memory) (value : Value)
+        → GivesAt (program_of of.now.insts) frame.old held place value
         → frame.new ≡ written frame.old (frame_place (program_of of.now.insts) place) (in_frame (program_of of.now.insts) value) }
 {
     let _module = of.module();
@@ -52,7 +54,8 @@ pub fn run_shuffle(of: &ModuleFrame<'_>, place: usize, frame: &mut [u32])
 pub fn run_construct(of: &ModuleFrame<'_>, place: usize, frame: &mut [u32])
     requires gives { GivesSome (program_of of.now.insts) frame.old place }
     requires is { (inst_at of.now.insts place).op == op.COMPOSITE_CONSTRUCT ≡ true }
-    ensures { (held : Memory) (value : Value) → GivesAt (program_of of.now.insts) frame.old held place value
+    ensures { (held : Memory) (value : Value)
+        → GivesAt (program_of of.now.insts) frame.old held place value
         → frame.new ≡ written frame.old (frame_place (program_of of.now.insts) place) (in_frame (program_of of.now.insts) value) }
 {
     let _module = of.module();
@@ -64,7 +67,8 @@ pub fn run_construct(of: &ModuleFrame<'_>, place: usize, frame: &mut [u32])
 pub fn run_extract(of: &ModuleFrame<'_>, place: usize, frame: &mut [u32])
     requires gives { GivesSome (program_of of.now.insts) frame.old place }
     requires is { (inst_at of.now.insts place).op == op.COMPOSITE_EXTRACT ≡ true }
-    ensures { (held : Memory) (value : Value) → GivesAt (program_of of.now.insts) frame.old held place value
+    ensures { (held : Memory) (value : Value)
+        → GivesAt (program_of of.now.insts) frame.old held place value
         → frame.new ≡ written frame.old (frame_place (program_of of.now.insts) place) (in_frame (program_of of.now.insts) value) }
 {
     let _module = of.module();
@@ -81,7 +85,8 @@ pub fn run_extract(of: &ModuleFrame<'_>, place: usize, frame: &mut [u32])
 pub fn run_insert(of: &ModuleFrame<'_>, place: usize, frame: &mut [u32])
     requires gives { GivesSome (program_of of.now.insts) frame.old place }
     requires is { (inst_at of.now.insts place).op == op.COMPOSITE_INSERT ≡ true }
-    ensures { (held : Memory) (value : Value) → GivesAt (program_of of.now.insts) frame.old held place value
+    ensures { (held : Memory) (value : Value)
+        → GivesAt (program_of of.now.insts) frame.old held place value
         → frame.new ≡ written frame.old (frame_place (program_of of.now.insts) place) (in_frame (program_of of.now.insts) value) }
 {
     let _module = of.module();
@@ -127,7 +132,8 @@ fn type_of(of: &ModuleFrame<'_>, id: u32) -> u32
 
 /// Where the part begins, in words, to which literals lead in a value of a type.
 fn part_start(of: &ModuleFrame<'_>, ty: u32, literals: &[u32]) -> usize
-    ensures { (layout part : Layout) (start : ℕ) → (program_of of.now.insts).layout ty ≡ Some layout → start < 2 ^ 64
+    ensures { (layout part : Layout) (start : ℕ)
+        → (program_of of.now.insts).layout ty ≡ Some layout → start < 2 ^ 64
         → part_along layout literals.now ≡ Some (start, part) → result ≡ start }
 {
     let mut start: usize = 0;
@@ -155,7 +161,8 @@ fn clear_words(count: usize, to: &mut [u32])
 /// Writes the words of the values of ids one after another.
 pub fn gather_words(of: &ModuleFrame<'_>, front: &[u32], ids: &[u32], to: &mut [u32])
     requires fits { length (flat_map (shown_of of.now.insts front.now) ids.now) ≤ length to.old }
-    requires there { (k : ℕ) → k < length ids.now → IsShown of.now.insts front.now (slice_index ids.now k) }
+    requires there { (k : ℕ) → k < length ids.now
+        → IsShown of.now.insts front.now (slice_index ids.now k) }
     ensures { to.new ≡ written to.old 0 (flat_map (shown_of of.now.insts front.now) ids.now) }
 {
     let mut at = 0;

@@ -28,7 +28,8 @@ pub fn first_frame(
     values: &SpecValues,
 ) -> Result<Vec<u32>, AllocError>
     requires { first_label of.now.insts ≡ Some first }
-    ensures { IfOk result (λ frame. IsFirstFrame (program_of of.now.insts) values.now first frame.items) }
+    ensures { IfOk result
+        (λ frame. IsFirstFrame (program_of of.now.insts) values.now first frame.items) }
 {
     let _module = of.module();
     let mut frame = zeros(alloc, of.frame_place(of.count()))?;
@@ -156,14 +157,16 @@ fn truth_word(of: &ModuleFrame<'_>, values: &SpecValues, id: u32, default: u32) 
 
 /// The word of a number that specialization may set.
 fn number_word(of: &ModuleFrame<'_>, values: &SpecValues, id: u32, default: u32) -> u32
-    ensures { result ≡ unwrap_or (start.specialized (program_of of.now.insts) values.now id) default }
+    ensures { result
+        ≡ unwrap_or (start.specialized (program_of of.now.insts) values.now id) default }
 {
     specialized(of, values, id).unwrap_or(default)
 }
 
 /// The word of an OpSpecConstantOp.
 fn operation_word(of: &ModuleFrame<'_>, inst: &Inst, frame: &[u32]) -> u32
-    ensures { (read : List Value) (value : Value) → AreShownWords of.now.insts frame.now (words_from 3 inst.now) read
+    ensures { (read : List Value) (value : Value)
+        → AreShownWords of.now.insts frame.now (words_from 3 inst.now) read
         → start.scalar_value (word_at 2 inst.now) read ≡ Some value → words_of value ≡ Some (result ∷ []) }
 {
     let opcode = inst.word(2);

@@ -115,10 +115,12 @@ impl<'m> Prepared<'m> {
 
 /// Puts what an invocation leaves in the place of zeros, if it is done.
 fn leave(variables: &Variables<'_>, memory: &[u32], ended: &mut Ended)
-    requires size { length memory.now ≡ memory_place (program_of variables.now.insts) (length variables.now.insts) }
+    requires size { length memory.now
+        ≡ memory_place (program_of variables.now.insts) (length variables.now.insts) }
     requires position { ended.old.position ≡ replicate COMPONENTS 0 }
     requires slots { ended.old.slots ≡ replicate LOCATIONS (replicate COMPONENTS 0) }
-    ensures { (held : Memory) → ShowsMemory (program_of variables.now.insts) memory.now held → ended.new
+    ensures { (held : Memory) → ShowsMemory (program_of variables.now.insts) memory.now held
+        → ended.new
         ≡ left_so (program_of variables.now.insts) (record { kind = ended.old.kind; work = ended.old.work }) held }
 {
     match ended.kind {

@@ -19,7 +19,8 @@ use spirv_model::op;
 pub fn run_result(of: &ModuleFrame<'_>, place: usize, frame: &mut [u32], memory: &[u32])
     requires gives { LoadsSome (program_of of.now.insts) frame.old memory.now place }
     requires is { gives_result (inst_at of.now.insts place).op ≡ true }
-    ensures { (held : Memory) (value : Value) → ShowsMemory (program_of of.now.insts) memory.now held
+    ensures { (held : Memory) (value : Value)
+        → ShowsMemory (program_of of.now.insts) memory.now held
         → GivesAt (program_of of.now.insts) frame.old held place value
         → frame.new ≡ written frame.old (frame_place (program_of of.now.insts) place)
         (in_frame (program_of of.now.insts) value) }

@@ -60,7 +60,8 @@ impl<'m> Variables<'m> {
 
     /// Clears the memory, and fills in inputs, uniforms and push constants.
     pub fn fill(&self, inputs: &Inputs, buffers: &Buffers, memory: &mut [u32])
-        requires { length memory.old ≡ memory_place (program_of self.now.insts) (length self.now.insts) }
+        requires { length memory.old
+            ≡ memory_place (program_of self.now.insts) (length self.now.insts) }
         ensures { ShowsMemory (program_of self.now.insts) memory.new
             (first_memory (program_of self.now.insts) inputs.now buffers.now) }
     {
@@ -75,7 +76,8 @@ impl<'m> Variables<'m> {
         position: &mut [u32; COMPONENTS],
         slots: &mut [[u32; COMPONENTS]; LOCATIONS],
     )
-        requires size { length memory.now ≡ memory_place (program_of self.now.insts) (length self.now.insts) }
+        requires size { length memory.now
+            ≡ memory_place (program_of self.now.insts) (length self.now.insts) }
         requires no_position { position.old ≡ replicate COMPONENTS 0 }
         requires no_slots { slots.old ≡ replicate LOCATIONS (replicate COMPONENTS 0) }
         ensures position { (held : Memory) → ShowsMemory (program_of self.now.insts) memory.now held
@@ -90,7 +92,8 @@ impl<'m> Variables<'m> {
 
 /// What is filled in for the variables of a module.
 fn fills(alloc: Global, of: &ModuleFrame<'_>) -> Result<Vec<Fill>, AllocError>
-    ensures { IfOk result (λ fills. AreFills (program_of of.now.insts) (length of.now.insts) fills.items) }
+    ensures { IfOk result
+        (λ fills. AreFills (program_of of.now.insts) (length of.now.insts) fills.items) }
 {
     let mut fills = Vec::new(alloc);
     for place in 0..of.count() {

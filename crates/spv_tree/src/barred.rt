@@ -40,7 +40,8 @@ fn add_targets(
     place: u32,
     inst: &Inst,
 ) -> Result<(), AllocError>
-    ensures { OnOk result ((a b : ℕ) → has_pair targets.new a b ≡ (has_pair targets.old a b || ((place == a) && leads_to inst.now b))) }
+    ensures { OnOk result ((a b : ℕ) → has_pair targets.new a b
+        ≡ (has_pair targets.old a b || ((place == a) && leads_to inst.now b))) }
 {
     if inst.op != op::SWITCH {
         return Ok(());
@@ -51,7 +52,8 @@ fn add_targets(
 }
 
 fn add_cases(targets: &mut Targets, place: u32, cases: &[SwitchCase]) -> Result<(), AllocError>
-    ensures { OnOk result ((a b : ℕ) → has_pair targets.new a b ≡ (has_pair targets.old a b || ((place == a) && is_among b (spec.targets cases.now)))) }
+    ensures { OnOk result ((a b : ℕ) → has_pair targets.new a b
+        ≡ (has_pair targets.old a b || ((place == a) && is_among b (spec.targets cases.now)))) }
 {
     for case in cases {
         add_pair(targets, place, case.target)?;
@@ -60,7 +62,8 @@ fn add_cases(targets: &mut Targets, place: u32, cases: &[SwitchCase]) -> Result<
 }
 
 fn add_pair(targets: &mut Targets, place: u32, label: u32) -> Result<(), AllocError>
-    ensures { OnOk result ((a b : ℕ) → has_pair targets.new a b ≡ (has_pair targets.old a b || ((place == a) && (label == b)))) }
+    ensures { OnOk result ((a b : ℕ) → has_pair targets.new a b
+        ≡ (has_pair targets.old a b || ((place == a) && (label == b)))) }
 {
     targets.insert((place, label))?;
     Ok(())

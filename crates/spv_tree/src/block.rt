@@ -141,7 +141,8 @@ fn branch(
     place: u32,
 ) -> BlockEnd
     requires { place + 1 < 2 ^ 32 }
-    ensures { (barred : List ℕ) → AreBarred targets.now arms.now barred → result ≡ spec.branch (with_barred scope barred) label rest.now place }
+    ensures { (barred : List ℕ) → AreBarred targets.now arms.now barred
+        → result ≡ spec.branch (with_barred scope barred) label rest.now place }
 {
     if is_barred(targets, arms, label) {
         return BlockEnd::Broken(TreeFault::BadExit(place));
@@ -197,7 +198,8 @@ fn terminator_end(
     place: u32,
 ) -> BlockEnd
     requires { place + 1 < 2 ^ 32 }
-    ensures { (barred : List ℕ) → AreBarred targets.now arms.now barred → result ≡ spec.terminator_end (with_barred scope barred) inst.now rest.now place }
+    ensures { (barred : List ℕ) → AreBarred targets.now arms.now barred
+        → result ≡ spec.terminator_end (with_barred scope barred) inst.now rest.now place }
 {
     match inst.op {
         op::BRANCH => branch(targets, arms, scope, inst.word(0), rest, place),
@@ -260,7 +262,8 @@ fn switch_head(
     place: u32,
 ) -> Result<BlockEnd, AllocError>
     requires { place + 2 < 2 ^ 32 }
-    ensures { IfOk result (λ end. end ≡ spec.switch_head (with_barred scope []) merge inst.now.words place) }
+    ensures { IfOk result (λ end. end
+        ≡ spec.switch_head (with_barred scope []) merge inst.now.words place) }
 {
     if scope.depth >= NESTING {
         return Ok(BlockEnd::Broken(TreeFault::TooDeep(place)));
@@ -285,7 +288,8 @@ fn selection_end(
     place: u32,
 ) -> Result<BlockEnd, AllocError>
     requires { place + 1 + length rest.now < 2 ^ 32 }
-    ensures { IfOk result (λ end. end ≡ spec.selection_end (with_barred scope []) merge rest.now place) }
+    ensures { IfOk result (λ end. end
+        ≡ spec.selection_end (with_barred scope []) merge rest.now place) }
 {
     let Some((inst, _)) = rest.split_first() else {
         return Ok(unmerged(scope, rest, place));
@@ -308,7 +312,8 @@ fn loop_head(
     place: u32,
 ) -> BlockEnd
     requires { place + 2 < 2 ^ 32 }
-    ensures { (barred : List ℕ) → AreBarred targets.now arms.now barred → result ≡ spec.loop_head (with_barred scope barred) header inst.now.words test place }
+    ensures { (barred : List ℕ) → AreBarred targets.now arms.now barred
+        → result ≡ spec.loop_head (with_barred scope barred) header inst.now.words test place }
 {
     if NESTING <= scope.depth {
         return BlockEnd::Broken(TreeFault::TooDeep(place));
@@ -336,7 +341,8 @@ fn loop_end(
     place: u32,
 ) -> BlockEnd
     requires { place + 1 + length rest.now < 2 ^ 32 }
-    ensures { (barred : List ℕ) → AreBarred targets.now arms.now barred → result ≡ spec.loop_end (with_barred scope barred) header inst.now.words rest.now place }
+    ensures { (barred : List ℕ) → AreBarred targets.now arms.now barred
+        → result ≡ spec.loop_end (with_barred scope barred) header inst.now.words rest.now place }
 {
     if !scope.may_loop {
         return BlockEnd::Broken(TreeFault::BadMerge(place));

@@ -59,7 +59,8 @@ fn repeat(alloc: Global, cases: &[SwitchCase]) -> Result<bool, AllocError>
 /// Whether the literal is new. It is seen from now on.
 fn see(seen: &mut BTreeSet<u32>, literal: u32) -> Result<bool, AllocError>
     ensures before { IfOk result (λ is_new. is_new ≡ not (contains nat_cmp seen.old literal)) }
-    ensures now { OnOk result ((other : ℕ) → contains nat_cmp seen.new other ≡ ((other == literal) || contains nat_cmp seen.old other)) }
+    ensures now { OnOk result ((other : ℕ)
+        → contains nat_cmp seen.new other ≡ ((other == literal) || contains nat_cmp seen.old other)) }
 {
     let is_new = seen.insert(literal)?;
     Ok(is_new)
@@ -72,7 +73,8 @@ pub fn arm_labels(
     default: u32,
     cases: &[SwitchCase],
 ) -> Result<BTreeSet<u32>, AllocError>
-    ensures { IfOk result (λ labels. HasLabels labels (without merge (default ∷ targets cases.now))) }
+    ensures { IfOk result
+        (λ labels. HasLabels labels (without merge (default ∷ targets cases.now))) }
 {
     let mut labels = BTreeSet::new(alloc);
     add_arm(&mut labels, merge, default)?;
@@ -83,7 +85,8 @@ pub fn arm_labels(
 }
 
 fn add_arm(labels: &mut BTreeSet<u32>, merge: u32, target: u32) -> Result<(), AllocError>
-    ensures { OnOk result ((label : ℕ) → contains nat_cmp labels.new label ≡ ((not (target == merge) && (target == label)) || contains nat_cmp labels.old label)) }
+    ensures { OnOk result ((label : ℕ) → contains nat_cmp labels.new label
+        ≡ ((not (target == merge) && (target == label)) || contains nat_cmp labels.old label)) }
 {
     if target != merge {
         labels.insert(target)?;

@@ -29,7 +29,8 @@ pub fn repeated_labels(alloc: Global, insts: &[Inst]) -> Result<Vec<bool>, Alloc
 
 /// Whether the instruction is an OpLabel of a label that was seen. It is seen from now on.
 fn see(seen: &mut BTreeSet<u32>, inst: &Inst) -> Result<bool, AllocError>
-    ensures before { IfOk result (λ is_repeated. is_repeated ≡ ((inst.now.op == LABEL) && contains nat_cmp seen.old (word_at 0 inst.now))) }
+    ensures before { IfOk result (λ is_repeated. is_repeated
+        ≡ ((inst.now.op == LABEL) && contains nat_cmp seen.old (word_at 0 inst.now))) }
     ensures now { OnOk result ((label : ℕ) → contains nat_cmp seen.new label
         ≡ (((inst.now.op == LABEL) && (word_at 0 inst.now == label)) || contains nat_cmp seen.old label)) }
 {
@@ -78,7 +79,8 @@ pub fn arm_label(
     place: u32,
 ) -> Result<u32, TreeFault>
     requires { MarksLabels insts.now repeated.now }
-    ensures { (labels : List ℕ) → HasLabels left.now labels → IsArmLabel insts.now labels place result }
+    ensures { (labels : List ℕ) → HasLabels left.now labels
+        → IsArmLabel insts.now labels place result }
 {
     let at = place as usize;
     if at >= insts.len() {

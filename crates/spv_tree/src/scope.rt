@@ -41,7 +41,8 @@ pub fn main() -> Scope
 
 /// The sequence goes on at the block behind one.
 pub fn behind_block(scope: Scope) -> Scope
-    ensures { (barred : List ℕ) → with_barred result barred ≡ spec.behind_block (with_barred scope barred) }
+    ensures { (barred : List ℕ) → with_barred result barred
+        ≡ spec.behind_block (with_barred scope barred) }
 {
     Scope {
         phis: Phis::AtHeader,
@@ -52,7 +53,8 @@ pub fn behind_block(scope: Scope) -> Scope
 
 /// The sequence goes on at the merge block of a selection or an OpSwitch.
 pub fn behind_selection(scope: Scope) -> Scope
-    ensures { (barred : List ℕ) → with_barred result barred ≡ spec.behind_selection (with_barred scope barred) }
+    ensures { (barred : List ℕ) → with_barred result barred
+        ≡ spec.behind_selection (with_barred scope barred) }
 {
     Scope {
         phis: Phis::Anywhere,
@@ -63,7 +65,8 @@ pub fn behind_selection(scope: Scope) -> Scope
 
 /// The sequence goes on at the merge block of a loop.
 pub fn behind_loop(scope: Scope) -> Scope
-    ensures { (barred : List ℕ) → with_barred result barred ≡ spec.behind_loop (with_barred scope barred) }
+    ensures { (barred : List ℕ) → with_barred result barred
+        ≡ spec.behind_loop (with_barred scope barred) }
 {
     Scope {
         phis: Phis::Nowhere,
@@ -75,7 +78,8 @@ pub fn behind_loop(scope: Scope) -> Scope
 /// An arm of a selection in the sequence.
 pub fn arm(scope: Scope, merge: u32) -> Scope
     requires { scope.depth < NESTING }
-    ensures is { (barred : List ℕ) → with_barred result barred ≡ spec.arm (with_barred scope barred) merge }
+    ensures is { (barred : List ℕ) → with_barred result barred
+        ≡ spec.arm (with_barred scope barred) merge }
     ensures depth { result.depth ≡ scope.depth + 1 }
 {
     Scope {
@@ -95,7 +99,8 @@ pub fn arm(scope: Scope, merge: u32) -> Scope
 /// An arm of an OpSwitch in the sequence, whose other arms bar their labels.
 pub fn switch_arm(scope: Scope, merge: u32) -> Scope
     requires { scope.depth < NESTING }
-    ensures is { (others barred : List ℕ) → with_barred result (others ++ barred) ≡ spec.switch_arm (with_barred scope barred) merge others }
+    ensures is { (others barred : List ℕ)
+        → with_barred result (others ++ barred) ≡ spec.switch_arm (with_barred scope barred) merge others }
     ensures depth { result.depth ≡ scope.depth + 1 }
 {
     Scope {
@@ -107,7 +112,8 @@ pub fn switch_arm(scope: Scope, merge: u32) -> Scope
 /// A part of a loop in the sequence: nothing but what the part itself allows leads out of it.
 fn loop_part(scope: Scope) -> Scope
     requires { scope.depth < NESTING }
-    ensures is { (barred : List ℕ) → with_barred result barred ≡ spec.loop_part (with_barred scope barred) }
+    ensures is { (barred : List ℕ) → with_barred result barred
+        ≡ spec.loop_part (with_barred scope barred) }
     ensures depth { result.depth ≡ scope.depth + 1 }
 {
     Scope {
@@ -127,7 +133,8 @@ fn loop_part(scope: Scope) -> Scope
 /// The condition sequence of a loop in the sequence.
 pub fn condition(scope: Scope, merge: u32) -> Scope
     requires { scope.depth < NESTING }
-    ensures is { (barred : List ℕ) → with_barred result barred ≡ spec.condition (with_barred scope barred) merge }
+    ensures is { (barred : List ℕ) → with_barred result barred
+        ≡ spec.condition (with_barred scope barred) merge }
     ensures depth { result.depth ≡ scope.depth + 1 }
 {
     Scope {
@@ -142,7 +149,8 @@ pub fn condition(scope: Scope, merge: u32) -> Scope
 /// The body of a loop in the sequence.
 pub fn body(scope: Scope, merge: u32, next: u32) -> Scope
     requires { scope.depth < NESTING }
-    ensures is { (barred : List ℕ) → with_barred result barred ≡ spec.body (with_barred scope barred) merge next }
+    ensures is { (barred : List ℕ) → with_barred result barred
+        ≡ spec.body (with_barred scope barred) merge next }
     ensures depth { result.depth ≡ scope.depth + 1 }
 {
     Scope {
@@ -154,7 +162,8 @@ pub fn body(scope: Scope, merge: u32, next: u32) -> Scope
 /// The continue sequence of a loop in the sequence.
 pub fn continuing(scope: Scope, header: u32) -> Scope
     requires { scope.depth < NESTING }
-    ensures is { (barred : List ℕ) → with_barred result barred ≡ spec.continuing (with_barred scope barred) header }
+    ensures is { (barred : List ℕ) → with_barred result barred
+        ≡ spec.continuing (with_barred scope barred) header }
     ensures depth { result.depth ≡ scope.depth + 1 }
 {
     Scope {

@@ -298,7 +298,8 @@ fn pick_cases(
     literals: &[SwitchCase],
     numbers: &BTreeMap<u32, u32>,
 ) -> Result<Items<PickCase>, AllocError>
-    ensures { (labels : List ℕ) → Numbers numbers.now labels → IfOk result (λ list. list ≡ numbered (as_cases literals.now) labels) }
+    ensures { (labels : List ℕ) → Numbers numbers.now labels
+        → IfOk result (λ list. list ≡ numbered (as_cases literals.now) labels) }
 {
     let mut list = Items::new(alloc);
     for case in literals {
@@ -350,13 +351,15 @@ fn switch_arms(
 }
 
 fn drop_label(labels: &mut BTreeSet<u32>, label: u32)
-    ensures { (other : ℕ) → contains nat_cmp labels.new other ≡ (not (other == label) && contains nat_cmp labels.old other) }
+    ensures { (other : ℕ) → contains nat_cmp labels.new other
+        ≡ (not (other == label) && contains nat_cmp labels.old other) }
 {
     labels.remove(&label);
 }
 
 fn add_number(numbers: &mut BTreeMap<u32, u32>, label: u32, number: u32) -> Result<(), AllocError>
-    ensures { OnOk result ((other : ℕ) → get nat_cmp numbers.new other ≡ (if label == other then Some number else get nat_cmp numbers.old other)) }
+    ensures { OnOk result ((other : ℕ) → get nat_cmp numbers.new other
+        ≡ (if label == other then Some number else get nat_cmp numbers.old other)) }
 {
     numbers.insert(label, number)?;
     Ok(())

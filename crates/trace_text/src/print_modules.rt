@@ -34,7 +34,8 @@ pub fn check_text(alloc: Global, modules: &[Module]) -> Result<Vec<u8>, AllocErr
 
 /// Pushes the line of a module.
 fn push_module(text: &mut Vec<u8>, number: usize, module: &Module) -> Result<(), AllocError>
-    ensures { OnOk result (text.new.items ≡ text.old.items ++ spec.module_text (number, «module».now)) }
+    ensures { OnOk result (text.new.items
+        ≡ text.old.items ++ spec.module_text (number, «module».now)) }
 {
     text.extend_from_slice(b"code")?;
     push_number(text, number as u64)?;

@@ -133,7 +133,8 @@ fn push_between(text: &mut Vec<u8>, separator: u8, before: u32) -> Result<(), Al
 
 /// Pushes the samples of a pixel.
 fn push_pixel(text: &mut Vec<u8>, target: &Target, words: &[u32]) -> Result<(), AllocError>
-    ensures { OnOk result (text.new.items ≡ text.old.items ++ spec.pixel_text target.now words.now) }
+    ensures { OnOk result (text.new.items
+        ≡ text.old.items ++ spec.pixel_text target.now words.now) }
 {
     let size = sample_size(target);
     let mut rest = words;

@@ -68,7 +68,7 @@ function_variable typing words true is none = not_false (slice_index words 2 == 
 function_variable typing words false is none = cc
 
 -- it is of class Function
-class_is : (words : Words) (v : IsValidList words) (place : ℕ) → v.derivation.before + 1 ≤ place → place < v.derivation.after → (inst_at words.insts place).op == op.VARIABLE ≡ true → word_at 2 (inst_at words.insts place) == storage_class.FUNCTION ≡ true
+pub class_is : (words : Words) (v : IsValidList words) (place : ℕ) → v.derivation.before + 1 ≤ place → place < v.derivation.after → (inst_at words.insts place).op == op.VARIABLE ≡ true → word_at 2 (inst_at words.insts place) == storage_class.FUNCTION ≡ true
 unfolding has_wrong_storage
 class_is words v place low high is =
     let insts = words.insts in

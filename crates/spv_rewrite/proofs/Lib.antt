@@ -1,0 +1,5 @@
+mod BlockEnds
+mod Fronts
+mod KeptInsts
+mod KeptWords
+mod Pairs
