@@ -174,8 +174,7 @@ fn folded_results_are_constants_before_the_function(rt: HostRuntime) -> Result<(
 #[test]
 fn a_switch_keeps_its_default_under_other_names(rt: HostRuntime) -> Result<(), Fail> {
     let alloc = rt.alloc();
-    let module = check(alloc, &CASES)?;
-    let front = flat(alloc, module.insts())?;
+    let (front, _) = CASES.split_at(70);
     let changes = [(18, Fate::Picks(22)), (19, Fate::Dead), (20, Fate::Dead)];
     let switch: [(u16, &[u32]); 1] = [(op::SWITCH, &[11, 22])];
     let behind: [(u16, &[u32]); 7] = [
@@ -187,8 +186,7 @@ fn a_switch_keeps_its_default_under_other_names(rt: HostRuntime) -> Result<(), F
         (op::RETURN, &[]),
         (op::FUNCTION_END, &[]),
     ];
-    let mut words = Vec::new(alloc);
-    words.extend_from_slice(front.as_slice().split_at(65).0)?;
+    let mut words = Vec::from_slice(alloc, front.split_at(5).1)?;
     add(&mut words, &switch)?;
     add(&mut words, &behind)?;
     assert_eq!(rt;
