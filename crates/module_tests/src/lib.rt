@@ -4,13 +4,9 @@
 #[cfg(test)]
 mod bad_modules;
 #[cfg(test)]
-mod change_tests;
-#[cfg(test)]
 mod decoration_tests;
 #[cfg(test)]
 mod faulty_bodies;
-#[cfg(test)]
-mod frame;
 #[cfg(test)]
 mod id_tests;
 #[cfg(test)]
@@ -22,13 +18,7 @@ mod outcomes;
 #[cfg(test)]
 mod refused_modules;
 #[cfg(test)]
-mod sample_words;
-#[cfg(test)]
-mod samples;
-#[cfg(test)]
 mod shader_runs;
-#[cfg(test)]
-mod shader_words;
 #[cfg(test)]
 mod shaders;
 #[cfg(test)]

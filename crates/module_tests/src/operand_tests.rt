@@ -1,6 +1,6 @@
 //! Which operands fit and which storage is wrong, instruction by instruction, in whole modules.
-use crate::frame::{Listing, module};
-use crate::shader_words::POINT;
+use sample_modules::frame::{Listing, module};
+use sample_modules::shader_words::POINT;
 use spirv_model::op;
 use spv_check::{CheckFault, check};
 use std::test::Fail;

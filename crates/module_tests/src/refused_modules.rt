@@ -1,4 +1,4 @@
-use crate::frame::{FRONT, Listing, add, module, words_of};
+use sample_modules::frame::{FRONT, Listing, add, module, words_of};
 use body_model::TreeFault;
 use spirv_model::op;
 use spv_check::{CheckFault, check};

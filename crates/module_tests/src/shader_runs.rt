@@ -5,7 +5,7 @@ use crate::outcomes::{
     Outcome, at_first_location, done, entry, first_buffer_bound, no_entries, no_inputs, nothing,
     one_buffer, one_word, run_on, run_over, run_with,
 };
-use crate::shader_words::{
+use sample_modules::shader_words::{
     FLAT_INPUTS, LOOP, NESTED, PUSH_CONSTANTS, SWITCH, UNIFORM_BLOCK, VERTEX_OUTPUTS,
 };
 use spv_exec::Kind;

@@ -1,6 +1,6 @@
 //! Shaders are accepted, and told with their stage, their interface and the numbers of their specialization constants. What
 //! is expected is read off their source.
-use crate::shader_words::{
+use sample_modules::shader_words::{
     FLAT_INPUTS, LOOP, NESTED, NUMBER, POINT, PUSH_CONSTANTS, SWITCH, UNIFORM_BLOCK, VERTEX_OUTPUTS,
 };
 use spv_check::{Stage, check};

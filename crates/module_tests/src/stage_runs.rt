@@ -1,16 +1,16 @@
 //! Runs of sample modules. What they leave and their work, the number of instructions from each label to its block's end, are
 //! counted by hand.
 
-use crate::frame::words_of;
+use sample_modules::frame::words_of;
 use crate::outcomes::{
     at_first_location, done, entry, first_buffer_bound, no_entries, no_inputs, nothing, one_buffer,
     one_word, outcome, run_on, run_over, run_plain, run_with_entry,
 };
-use crate::sample_words::{
+use sample_modules::sample_words::{
     CASES, DISCARDED, ENDLESS, EXCHANGE, INDEXED, LEFT_EARLY, QUOTIENT, SUM, UNIFORM_QUOTIENT,
 };
-use crate::samples::{LOOP_MODULE, NAMES_MODULE, SELECTION_MODULE};
-use crate::shader_words::{NUMBER, POINT};
+use sample_modules::samples::{LOOP_MODULE, NAMES_MODULE, SELECTION_MODULE};
+use sample_modules::shader_words::{NUMBER, POINT};
 use spv_check::check;
 use spv_exec::{Kind, Prepared};
 use sqlite_items::Items;

@@ -3,8 +3,8 @@ use crate::bad_modules::{
     OPERAND_OF_RETURN, TYPE_OUT_OF_BOUND, UNIFORM_COORDINATE, UNKNOWN, VARIABLE_BEHIND_RETURN,
     VARIABLE_OF_AN_INTEGER,
 };
-use crate::frame::words_of;
-use crate::samples::{LOOP_MODULE, NAMES_MODULE, SELECTION_MODULE};
+use sample_modules::frame::words_of;
+use sample_modules::samples::{LOOP_MODULE, NAMES_MODULE, SELECTION_MODULE};
 use spirv_model::{Words, WordsFault};
 use spv_tree::{Block, End, Node, Run, TreeFault, flatten, tree_of};
 use spv_types::{Meaning, ids_of};

@@ -1,5 +1,5 @@
 //! Modules are listed, and listings assembled.
-use crate::shader_words::NUMBER;
+use sample_modules::shader_words::NUMBER;
 use spv_text::{ListFault, TextCause, WordsFault, assemble, list_text};
 use std::alloc::{AllocError, Global};
 use std::test::Fail;

@@ -6,7 +6,7 @@ use crate::faulty_bodies::{
     AGAINST_THE_GRAMMAR, END, IN_A_LOOP, IN_AN_ARM, LABEL_20, LABEL_21, LABEL_22, LOOP_TO_BODY,
     Line, OF_A_SWITCH, RETURN, SWITCH_TO_ARM,
 };
-use crate::frame::inst;
+use sample_modules::frame::inst;
 use spirv_model::{Inst, op};
 use spv_tree::{Body, Node, Pick, PickCase, Run, TreeFault, flatten, tree_of};
 use std::alloc::{AllocError, Global};

@@ -1,4 +1,4 @@
-use crate::frame::{FRONT, add, words_of};
+use sample_modules::frame::{FRONT, add, words_of};
 use limits::MODULE_WORDS;
 use spirv_model::op;
 use spv_check::check;

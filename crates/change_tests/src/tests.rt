@@ -1,8 +1,8 @@
 //! Lists that plans make of sample modules. What is expected is written out by hand.
 
-use crate::frame::{FRONT, add, module, words_of};
-use crate::sample_words::CASES;
-use crate::samples::SELECTION_MODULE;
+use sample_modules::frame::{FRONT, add, module, words_of};
+use sample_modules::sample_words::CASES;
+use sample_modules::samples::SELECTION_MODULE;
 use scalar_model::Scalar;
 use spirv_model::{Inst, op};
 use spv_check::check;
