@@ -2,6 +2,7 @@ pub mod Constants
 pub mod Folding
 pub mod Following
 pub mod Keeping
+pub mod Passes
 pub mod PlanRules
 pub mod Plans
 pub mod Programs

@@ -1,5 +1,5 @@
 -- A plan says what becomes of each instruction of a function, and which ids stand for others; the list that it makes of a module's.
-use Rattle.std.specs.Prelude.{ℕ, ◌-◌, ◌==◌, Bool, true, false, if◌then◌else◌, List, [], ◌∷◌, ◌++◌, length, map, filter, take, Option, None, Some}
+use Rattle.std.specs.Prelude.{ℕ, ◌-◌, ◌==◌, Bool, true, false, if◌then◌else◌, List, [], ◌∷◌, ◌++◌, length, map, filter, take, slice_index_or, Option, None, Some}
 use Rattle.std.specs.List.{flat_map, range_with_len}
 use Rattle.spirv_model.specs.declared.module.Inst.{Inst}
 use Rattle.spirv_model.specs.declared.table.Operand.{Operand}
@@ -123,3 +123,16 @@ later_places insts = range_with_len (function_at insts) (length insts - function
 unfoldable pub changed : Plan → List Inst → List Inst
 changed plan insts =
     take (function_at insts) insts ++ (flat_map (constant_at plan insts) (later_places insts) ++ flat_map (written_at plan insts) (later_places insts))
+
+-- ---- the plan that lists are
+
+-- what becomes of the instruction at a place: it stays past the end
+abbrev pub fate_in : List Fate → ℕ → Fate
+fate_in fates place = slice_index_or fates place Stays
+
+-- the id that stands for an id: itself past the end
+abbrev pub name_in : List ℕ → ℕ → ℕ
+name_in names id = slice_index_or names id id
+
+abbrev pub plan_of : List Fate → List ℕ → (ℕ → Bool) → Plan
+plan_of fates names is_unread = record { fate = fate_in fates; name = name_in names; is_unread = is_unread }

@@ -11,10 +11,10 @@ use Rattle.valid_model.specs.Definitions.{inst_at}
 use Rattle.check_model.specs.Validity.{IsValidList}
 use Rattle.change_model.specs.declared.fate.Fate.{Fate}
 use Rattle.change_model.specs.Folding.{function_at}
-use Rattle.change_model.specs.Plans.{predecessors_left, renamed_by, phi_left, block_at, kept_at, written_at, constant_as, constant_at, later_places, changed}
+use Rattle.change_model.specs.Plans.{predecessors_left, renamed_by, phi_left, block_at, kept_at, written_at, constant_as, constant_at, later_places, changed, fate_in, name_in, plan_of}
 use Rattle.id_table.specs.Tables.{at}
 use Rattle.spv_rewrite.specs.declared.change.Change.{Change}
-use Rattle.spv_rewrite.specs.Changes.{fate_in, name_in, plan_of, plan_in, IsOfModule}
+use Rattle.spv_rewrite.specs.Changes.{plan_in, IsOfModule}
 use Rattle.spv_rewrite.specs.PhiPairs.{is_left, pairs_by}
 use Rattle.spv_rewrite.proofs.Fronts.{one_more}
 use Rattle.spv_rewrite.proofs.Pairs.{phi_same}

@@ -10,11 +10,11 @@ use Rattle.valid_model.specs.Definitions.{inst_at}
 use Rattle.check_model.specs.Visibility.{Incoming, incoming_in, incoming_blocks}
 use Rattle.change_model.specs.declared.fate.Fate.{Fate}
 use Rattle.change_model.specs.declared.fate.Fate.TheVariants.{Dead, Goes, Picks}
-use Rattle.change_model.specs.Plans.{targets_left, predecessors_left, pairs_left, phi_left, block_at}
+use Rattle.change_model.specs.Plans.{targets_left, predecessors_left, pairs_left, phi_left, block_at, fate_in, name_in}
 use Rattle.change_model.proofs.PredecessorsLeft.{phi_names}
 use Rattle.id_table.specs.Tables.{at}
 use Rattle.spv_rewrite.specs.declared.change.Change.{Change}
-use Rattle.spv_rewrite.specs.Changes.{fate_in, plan_in, name_in, IsOfModule}
+use Rattle.spv_rewrite.specs.Changes.{plan_in, IsOfModule}
 use Rattle.spv_rewrite.specs.PhiPairs.{still_leads, is_left, pairs_by}
 
 or_false : (b : Bool) → (b || false) ≡ b

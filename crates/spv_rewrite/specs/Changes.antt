@@ -1,22 +1,9 @@
--- The plan that lists of fates and of names are, and what the program keeps of a module that it changes.
-use Rattle.std.specs.Prelude.{ℕ, Bool, false, List, slice_index_or}
+-- The plan of a change, and what the program keeps of a module that it changes.
+use Rattle.std.specs.Prelude.{ℕ, false}
 use Rattle.check_model.specs.Validity.{IsValidList}
-use Rattle.change_model.specs.declared.fate.Fate.{Fate}
-use Rattle.change_model.specs.declared.fate.Fate.TheVariants.{Stays}
-use Rattle.change_model.specs.Plans.{Plan}
+use Rattle.change_model.specs.Plans.{Plan, plan_of}
 use Rattle.spv_rewrite.specs.declared.change.Change.{Change}
 use Rattle.spv_rewrite.specs.Ends.{AreEnds}
-
--- what becomes of the instruction at a place: it stays past the end
-abbrev pub fate_in : List Fate → ℕ → Fate
-fate_in fates place = slice_index_or fates place Stays
-
--- the id that stands for an id: itself past the end
-abbrev pub name_in : List ℕ → ℕ → ℕ
-name_in names id = slice_index_or names id id
-
-abbrev pub plan_of : List Fate → List ℕ → (ℕ → Bool) → Plan
-plan_of fates names is_unread = record { fate = fate_in fates; name = name_in names; is_unread = is_unread }
 
 -- the plan of a change, which doesn't ask which variables are read
 abbrev pub plan_in : Change → Plan

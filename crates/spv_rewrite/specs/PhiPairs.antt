@@ -2,7 +2,7 @@
 use Rattle.std.specs.Prelude.{ℕ, ◌==◌, Bool, true, false, if◌then◌else◌, List, [], ◌∷◌, Option, None, Some}
 use Rattle.change_model.specs.declared.fate.Fate.{Fate}
 use Rattle.change_model.specs.declared.fate.Fate.TheVariants.{Dead, Goes, Picks}
-use Rattle.spv_rewrite.specs.Changes.{fate_in}
+use Rattle.change_model.specs.Plans.{fate_in}
 
 -- a terminator that leads to a label still does, where it has this fate
 abbrev pub still_leads : ℕ → Fate → Bool

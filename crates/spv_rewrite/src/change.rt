@@ -2,7 +2,7 @@
 ghost use Rattle.std.specs.Prelude.{◌≡◌, ◌<◌, length};
 ghost use Rattle.id_table.specs.Tables.{at};
 ghost use Rattle.valid_model.specs.Definitions as definitions;
-ghost use Rattle.spv_rewrite.specs.Changes.{fate_in, name_in};
+ghost use Rattle.change_model.specs.Plans.{fate_in, name_in};
 ghost use Rattle.spv_rewrite.specs.PhiPairs.{is_left, still_leads};
 
 use change_model::Fate;

@@ -2,8 +2,8 @@
 ghost use Rattle.std.specs.Prelude.{◌≡◌, ℕ, ◌-◌, ◌≤◌, ◌++◌, Bool, length, take, IfOk, OnOk};
 ghost use Rattle.std.specs.List.{flat_map};
 ghost use Rattle.change_model.specs.Folding.{function_at};
-ghost use Rattle.change_model.specs.Plans.{changed, constant_at, later_places, written_at};
-ghost use Rattle.spv_rewrite.specs.Changes.{IsOfModule, plan_in, plan_of};
+ghost use Rattle.change_model.specs.Plans.{changed, constant_at, later_places, written_at, plan_of};
+ghost use Rattle.spv_rewrite.specs.Changes.{IsOfModule, plan_in};
 
 use crate::block_ends::{block_ends, next_label};
 use crate::change::{Change, inst_at};

@@ -2,7 +2,7 @@
 ghost use Rattle.std.specs.Prelude.{◌≡◌, ◌++◌, take, IfOk, OnOk};
 ghost use Rattle.id_table.specs.Tables.{at};
 ghost use Rattle.spirv_model.specs.Operands.{words_from};
-ghost use Rattle.spv_rewrite.specs.Changes.{name_in};
+ghost use Rattle.change_model.specs.Plans.{name_in};
 ghost use Rattle.spv_rewrite.specs.PhiPairs.{is_left, pairs_by};
 
 use crate::change::{Change, name_of};

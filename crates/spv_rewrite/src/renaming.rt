@@ -1,8 +1,7 @@
 //! The words of an instruction, with other names for the ids among them that are neither its result nor the result's type.
 ghost use Rattle.std.specs.Prelude.{◌≡◌, ◌++◌, map, is_some, IsSome, IfOk, OnOk};
 ghost use Rattle.spirv_model.specs.Operands.{kinds, listed_of, operand_words, text_end};
-ghost use Rattle.change_model.specs.Plans.{renamed_by};
-ghost use Rattle.spv_rewrite.specs.Changes.{name_in};
+ghost use Rattle.change_model.specs.Plans.{renamed_by, name_in};
 ghost use Rattle.spv_rewrite.specs.Renaming.{Fit, PushesOperand, PushesText, all_left, cases_left, rest_left, words_left};
 
 use crate::change::name_of;

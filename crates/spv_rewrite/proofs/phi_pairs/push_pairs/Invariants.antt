@@ -1,6 +1,6 @@
 use Rattle.std.proofs.Common.{◌≡◌, ◌++◌, length}
 use Rattle.id_table.specs.Tables.{at}
-use Rattle.spv_rewrite.specs.Changes.{name_in}
+use Rattle.change_model.specs.Plans.{name_in}
 use Rattle.spv_rewrite.specs.PhiPairs.{is_left, pairs_by}
 use Rattle.spv_rewrite.proofs.phi_pairs.push_pairs.Given as goal
 

@@ -1,5 +1,5 @@
 use Rattle.std.proofs.Common.{◌≡◌, ◌++◌, length}
-use Rattle.spv_rewrite.specs.Changes.{name_in}
+use Rattle.change_model.specs.Plans.{name_in}
 use Rattle.spv_rewrite.specs.Renaming.{cases_left}
 use Rattle.spv_rewrite.proofs.renaming.push_cases.Given as goal
 

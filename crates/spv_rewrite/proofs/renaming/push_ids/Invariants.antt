@@ -1,5 +1,5 @@
 use Rattle.std.proofs.Common.{◌≡◌, ◌++◌, map, take}
-use Rattle.spv_rewrite.specs.Changes.{name_in}
+use Rattle.change_model.specs.Plans.{name_in}
 use Rattle.spv_rewrite.proofs.renaming.push_ids.Given as goal
 
 abbrev pub invariant-loop-id : goal.invariant-loop-id

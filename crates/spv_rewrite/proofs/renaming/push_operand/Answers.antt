@@ -1,4 +1,4 @@
-use Rattle.spv_rewrite.specs.Changes.{name_in}
+use Rattle.change_model.specs.Plans.{name_in}
 use Rattle.spv_rewrite.proofs.KeptWords.{text_pushed}
 use Rattle.spv_rewrite.proofs.renaming.push_operand.Goals as goal
 

@@ -1,7 +1,7 @@
 use Rattle.std.proofs.Common.{◌≡◌, ℕ, List, Option, Some, ap, sym, ◌∙◌, subst, option_copied}
 use Rattle.std.specs.Prelude.{IsSome, IfOk}
 use Rattle.spirv_model.specs.declared.table.Operand.{Operand}
-use Rattle.spv_rewrite.specs.Changes.{name_in}
+use Rattle.change_model.specs.Plans.{name_in}
 use Rattle.spv_rewrite.proofs.KeptWords.{listed_kinds, words_same}
 use Rattle.spv_rewrite.proofs.renaming.renamed_words.Goals as goal
 
