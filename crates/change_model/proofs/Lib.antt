@@ -178,3 +178,4 @@ pub mod PlanRunsRenamed
 pub mod PlanRunsLevel
 pub mod PlanRunsStores
 pub mod PlanRunsZeros
+pub mod FoundPlans

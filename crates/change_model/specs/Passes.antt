@@ -1,7 +1,7 @@
 -- The plan that one pass over a module without specialization constants finds: what becomes of each instruction by what stands
 -- before it. Only whether a loop is left at once, and whether an arm is left from within, is told by the module's level and the
 -- whole list.
-use Rattle.std.specs.Prelude.{◌≡◌, ℕ, zero, suc, ◌-◌, ◌<◌, ◌≤◌, ◌==◌, ◌⊎◌, Bool, true, false, not, ◌&&◌, ◌||◌, nat_lt, if◌then◌else◌, List, [], ◌∷◌, length, filter, Option, None, Some}
+use Rattle.std.specs.Prelude.{◌≡◌, ℕ, zero, suc, ◌+◌, ◌-◌, ◌<◌, ◌≤◌, ◌==◌, ◌⊎◌, Bool, true, false, not, ◌&&◌, ◌||◌, nat_lt, if◌then◌else◌, List, [], ◌∷◌, length, filter, Option, None, Some}
 use Rattle.std.specs.List.{list_any, range_with_len}
 use Rattle.std.specs.Option.{option_and_then}
 use Rattle.spirv_model.specs.declared.module.Inst.{Inst}
@@ -126,8 +126,7 @@ switch_fate intervals insts plan place =
 -- the OpLoopMerge at a place ends the block with this label, and stays
 abbrev pub is_header_merge : List Inst → ℕ → ℕ → Bool
 is_header_merge insts label place =
-    ((inst_at insts place).op == op.LOOP_MERGE) && (block_at insts place == label)
-    && not (is_left_loop insts (word_at 0 (inst_at insts place)) && is_free insts place)
+    ((inst_at insts place).op == op.LOOP_MERGE) && (block_at insts place == label) && not (is_left_loop insts (word_at 0 (inst_at insts place)))
 
 -- the block with this label is the header of a loop that stays
 unfoldable pub heads_loop : List Inst → ℕ → Bool
@@ -191,7 +190,7 @@ fate_alive intervals insts zeros plan place =
     else if (inst_at insts place).op == op.ACCESS_CHAIN then
         (if is_zero_input insts zeros (word_at 2 (inst_at insts place)) then Unused else Stays)
     else if (inst_at insts place).op == op.SELECTION_MERGE then merge_fate intervals insts plan place
-    else if (inst_at insts place).op == op.LOOP_MERGE then (if is_free insts place && opens insts place then Skips else Stays)
+    else if (inst_at insts place).op == op.LOOP_MERGE then (if opens insts place then Skips else Stays)
     else if (inst_at insts place).op == op.BRANCH_CONDITIONAL then branch_fate intervals insts plan place
     else if (inst_at insts place).op == op.SWITCH then switch_fate intervals insts plan place
     else if is_scalar_class (class_of (inst_at insts place).op) then operation_fate insts plan place
