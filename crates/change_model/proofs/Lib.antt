@@ -179,3 +179,4 @@ pub mod PlanRunsLevel
 pub mod PlanRunsStores
 pub mod PlanRunsZeros
 pub mod FoundPlans
+pub mod FoldsThere
