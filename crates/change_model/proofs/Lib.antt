@@ -179,3 +179,7 @@ pub mod PlanRunsLevel
 pub mod PlanRunsStores
 pub mod PlanRunsZeros
 pub mod FoundPlans
+pub mod FoundOrigins
+pub mod BlockPieces
+pub mod ConditionNames
+pub mod LoopNames
