@@ -180,6 +180,17 @@ pub mod PlanRunsStores
 pub mod PlanRunsZeros
 pub mod FoundPlans
 pub mod FoundOrigins
+pub mod FoundKnown
+pub mod FoundConstants
+pub mod FoundGoes
 pub mod BlockPieces
 pub mod ConditionNames
 pub mod LoopNames
+pub mod LoopTests
+pub mod FoundLabels
+pub mod FoundHeld
+pub mod FoundConditions
+pub mod FoundLoops
+pub mod FoundWithin
+pub mod FoundFits
+pub mod FoundIsPlan
