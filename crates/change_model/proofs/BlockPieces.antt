@@ -1,5 +1,5 @@
 -- What stands at a place of a block: its label, an instruction of its front, a merge instruction or its terminator.
-use Rattle.std.proofs.Common.{◌≡◌, ℕ, ◌+◌, ◌-◌, ◌<◌, ◌≤◌, ◌⊎◌, inl, inr, Bool, true, false, ◌==◌, ◌&&◌, nat_lt, List, [], ◌∷◌, slice_index, refl, ap, sym, ◌∙◌, subst, arith, Option, Some}
+use Rattle.std.proofs.Common.{◌≡◌, ℕ, ◌+◌, ◌-◌, ◌<◌, ◌≤◌, ◌⊎◌, inl, inr, Bool, true, false, ◌==◌, ◌&&◌, nat_lt, List, ◌∷◌, slice_index, refl, ap, sym, ◌∙◌, subst, arith, Some}
 use Rattle.std.proofs.lemmas.Bool.{cases_lt, eqb-true, lt-ltb}
 use Rattle.spirv_model.specs.declared.module.Inst.{Inst}
 use Rattle.spirv_model.specs.declared.op.TheConstants as op
@@ -13,6 +13,7 @@ use Rattle.body_model.specs.Switches.{is_among}
 use Rattle.body_model.specs.Targets.{targets}
 use Rattle.body_model.proofs.Shapes.{IsWhole, after_of}
 use Rattle.valid_model.specs.Definitions.{inst_at}
+use Rattle.stage_model.proofs.CodeRuns.{other_name}
 use Rattle.unit_model.specs.ConstantScalars.{is_behind}
 use Rattle.change_model.proofs.LeftBlocks.{is_inner}
 use Rattle.change_model.proofs.LeftEnds.{Way, exits, tests_true, tests_false, returns, kills, goes, selects, picks, loops, way as way_of}
@@ -20,7 +21,6 @@ use Rattle.change_model.proofs.LeftFronts.{OldBlock}
 use Rattle.change_model.proofs.LeftStops.{Stop, returning, stop_kill}
 use Rattle.change_model.proofs.LeftTests.{choice_targets}
 use Rattle.change_model.proofs.LeftBlockNames.{first_there, inst_there, second_there, front_inner, after_most}
-use Rattle.stage_model.proofs.CodeRuns.{other_name}
 
 pub data Piece (insts : List Inst) (scope : Scope) (from : ℕ) (end : BlockEnd) (o : OldBlock insts scope from end) (place : ℕ) : BlockEnd → Type 0 where
   of_label : {e : BlockEnd} → place ≡ from → (inst_at insts place).op ≡ op.LABEL → Piece insts scope from end o place e

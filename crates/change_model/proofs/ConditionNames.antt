@@ -1,6 +1,6 @@
 -- What stands in a sequence: a branch without a merge instruction only at its end, and where no loop may stand in it, none does, and each
 -- label behind its first is named by something before it.
-use Rattle.std.proofs.Common.{◌≡◌, ℕ, ◌+◌, ◌-◌, ◌<◌, ◌≤◌, ◌⊎◌, inl, inr, Bool, true, false, ◌==◌, ◌||◌, List, [], ◌∷◌, length, drop, slice_index, refl, ap, sym, ◌∙◌, subst, arith, Option, None, Some}
+use Rattle.std.proofs.Common.{◌≡◌, ℕ, ◌+◌, ◌-◌, ◌<◌, ◌≤◌, ◌⊎◌, inl, inr, Bool, true, false, ◌==◌, ◌||◌, List, [], ◌∷◌, drop, slice_index, refl, ap, sym, ◌∙◌, subst, arith, Option, None, Some}
 use Rattle.std.proofs.lemmas.Bool.{cases_lt, eqb-true, eq-eqb}
 use Rattle.std.proofs.lemmas.Option.{slice_get-get_or}
 use Rattle.spirv_model.specs.declared.module.Inst.{Inst}
@@ -24,13 +24,12 @@ use Rattle.unit_model.specs.ConstantScalars.{is_behind}
 use Rattle.change_model.specs.PlanRules.{merge_labels}
 use Rattle.change_model.proofs.BlockPieces.{Piece, of_label, of_front, of_stop, of_branch, of_test, of_choice, of_switch, of_selection, of_loop, piece}
 use Rattle.change_model.proofs.LeftBlocks.{is_inner}
-use Rattle.change_model.proofs.LeftBlockNames.{StandsIn, stands_due, stands_wider, inner_isnt, inst_there, second_there, last_there}
+use Rattle.change_model.proofs.LeftBlockNames.{StandsIn, stands_due, stands_wider, inst_there, second_there, last_there}
 use Rattle.change_model.proofs.LeftEnds.{Way, exits, tests_true, tests_false, returns, kills, goes, selects as selects_way, picks as picks_way, loops as loops_way, way as way_of}
 use Rattle.change_model.proofs.LeftFates.{inners}
 use Rattle.change_model.proofs.LeftFronts.{next_is, OldBlock, old_block}
 use Rattle.change_model.proofs.LeftHeadWays.{SelectsWay, PicksWay, head_way}
 use Rattle.change_model.proofs.LeftScopes.{is_label_at, label_at, names}
-use Rattle.change_model.proofs.LeftStops.{Stop}
 use Rattle.change_model.proofs.LeftSwitchArms.{among_without}
 use Rattle.change_model.proofs.LeftTargets.{due_stands}
 use Rattle.change_model.proofs.LeftTests.{choice_targets}

@@ -1,33 +1,32 @@
 -- Where the OpLoopMerge of a loop that is left at once is alive, so is its condition sequence: its branches stay, and its last goes to the
 -- merge block.
-use Rattle.std.proofs.Common.{◌≡◌, ℕ, zero, suc, ◌+◌, ◌-◌, ◌<◌, ◌≤◌, ◌⊎◌, inl, inr, Bool, true, false, not, ◌==◌, ◌||◌, ◌&&◌, if◌then◌else◌, List, [], ◌∷◌, length, refl, ap, sym, ◌∙◌, subst, arith, Option, None, Some}
+use Rattle.std.proofs.Common.{◌≡◌, ℕ, zero, suc, ◌+◌, ◌-◌, ◌<◌, ◌≤◌, ◌⊎◌, inl, inr, Bool, true, false, not, ◌==◌, ◌||◌, if◌then◌else◌, List, [], ◌∷◌, refl, ap, sym, ◌∙◌, subst, arith, Option, None, Some}
 use Rattle.std.proofs.lemmas.Bool.{cases_lt, eqb-true, eq-eqb}
 use Rattle.spirv_model.specs.declared.module.Inst.{Inst}
 use Rattle.spirv_model.specs.declared.op.TheConstants as op
 use Rattle.spirv_model.specs.Operands.{entry_of, class_of, word_at}
 use Rattle.body_model.specs.Switches.{is_among}
-use Rattle.body_model.specs.Targets.{targets}
 use Rattle.valid_model.specs.Definitions.{inst_at}
 use Rattle.check_model.specs.Intervals.{intervals_of}
+use Rattle.typed_model.proofs.BlockParts.{another}
 use Rattle.unit_model.specs.ConstantScalars.{is_behind, is_scalar_class}
 use Rattle.change_model.specs.declared.fate.Fate.{Fate}
 use Rattle.change_model.specs.declared.fate.Fate.TheVariants as fate
 use Rattle.change_model.specs.Plans.{is_dead}
 use Rattle.change_model.specs.PlanRules.{is_skipped, is_nothing, is_test_of}
-use Rattle.change_model.specs.Passes.{is_label, leaving_to, is_left_loop, opens, held_at, is_free, test_fate, branch_fate, fate_alive}
+use Rattle.change_model.specs.Passes.{is_label, leaving_to, opens, held_at, test_fate, branch_fate}
 use Rattle.change_model.proofs.FoundPlans.{Found}
 use Rattle.change_model.proofs.FoundGoes.{stays_names}
 use Rattle.change_model.proofs.FoundHeld.{loop_within, loop_at, loop_free, leaves_test, test_place, opened_left, left_there, held_on}
 use Rattle.change_model.proofs.FoundLabels.{named_alive, same_block}
 use Rattle.change_model.proofs.FoundOrigins.{Origin, goes_away, by_phi, by_load, by_chain, by_selection, by_loop, by_end, by_branch, by_switch, by_picks, by_folds, origin, alive_fate, alive_choice}
 use Rattle.change_model.proofs.FoundOrigins as source
-use Rattle.change_model.proofs.ConditionNames.{NamedIn, target_names, branch_targets}
-use Rattle.typed_model.proofs.BlockParts.{another}
+use Rattle.change_model.proofs.ConditionNames.{target_names, branch_targets}
 use Rattle.change_model.proofs.LeftBlockNames.{Silent, silent_names}
 use Rattle.change_model.proofs.LeftPlacedWhole.{labels_once}
 use Rattle.change_model.proofs.LeftScopes.{is_label_at, label_at, names}
 use Rattle.change_model.proofs.LoopNames.{LoopAt}
-use Rattle.change_model.proofs.LoopTests.{TestOf, test_of, condition_at, past_test, past_body, past_step, past_rest, merge_is, branch_behind, branch_to, test_stands, condition_entered}
+use Rattle.change_model.proofs.LoopTests.{test_of, condition_at, past_test, past_body, past_step, past_rest, branch_behind, branch_to, test_stands, condition_entered}
 
 clash : {Q : Type 0} (b : Bool) → b ≡ true → b ≡ false → Q
 clash true is isnt = cc

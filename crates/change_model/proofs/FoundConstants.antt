@@ -1,6 +1,6 @@
 -- Constants of the module are the same scalars under the plan that one pass finds.
-use Rattle.std.proofs.Common.{◌≡◌, ℕ, ◌+◌, ◌<◌, ◌≤◌, ◌⊎◌, inl, inr, Bool, true, false, ◌==◌, ◌||◌, if◌then◌else◌, List, length, refl, ap, sym, ◌∙◌, subst, Option, None, Some}
 use Rattle.std.specs.Option.{option_and_then}
+use Rattle.std.proofs.Common.{◌≡◌, ℕ, ◌<◌, inl, inr, Bool, true, false, ◌==◌, if◌then◌else◌, List, refl, ap, sym, ◌∙◌, Option, None, Some}
 use Rattle.std.proofs.lemmas.Bool.{cases_lt, eqb-true}
 use Rattle.spirv_model.specs.declared.module.Inst.{Inst}
 use Rattle.spirv_model.specs.declared.op.TheConstants as op
@@ -15,7 +15,7 @@ use Rattle.typed_model.proofs.ValidTypes.{keeps_rules}
 use Rattle.unit_model.specs.ConstantScalars.{null_scalar, scalar_by, constant_scalar, is_scalar_class}
 use Rattle.change_model.specs.declared.fate.Fate.{Fate}
 use Rattle.change_model.specs.declared.fate.Fate.TheVariants as fate
-use Rattle.change_model.specs.PlanRules.{scalar_as, scalar_of, scalar_left, IsResolvedId}
+use Rattle.change_model.specs.PlanRules.{scalar_as, scalar_of, scalar_left}
 use Rattle.change_model.proofs.FoundPlans.{Found}
 use Rattle.change_model.proofs.FoundOrigins.{Origin, goes_away, stays, by_phi, by_load, by_chain, by_selection, by_loop, by_end, by_branch, by_switch, by_picks, by_folds, origin}
 use Rattle.change_model.proofs.PlanRunsNames.{phi_result}

@@ -1,24 +1,24 @@
 -- What each fate asks that one pass finds, but for phis and for what nobody uses.
-use Rattle.std.proofs.Common.{◌≡◌, ℕ, suc, ◌+◌, ◌-◌, ◌<◌, ◌≤◌, ◌⊎◌, inl, inr, Bool, true, false, not, ◌==◌, ◌&&◌, nat_lt, if◌then◌else◌, List, length, refl, ap, sym, ◌∙◌, subst, arith, Option, None, Some}
+use Rattle.std.proofs.Common.{◌≡◌, ℕ, suc, ◌+◌, ◌-◌, ◌<◌, ◌≤◌, inl, inr, Bool, true, false, not, ◌==◌, ◌&&◌, nat_lt, if◌then◌else◌, List, refl, ap, sym, ◌∙◌, arith, Option, None, Some}
 use Rattle.std.proofs.lemmas.Bool.{cases_lt, eqb-true, eq-eqb, lt-ltb}
 use Rattle.spirv_model.specs.declared.module.Inst.{Inst}
 use Rattle.spirv_model.specs.declared.op.TheConstants as op
 use Rattle.spirv_model.specs.Operands.{word_at, words_from}
 use Rattle.scalar_model.specs.Scalars.{scalar_result}
 use Rattle.valid_model.specs.Definitions.{inst_at}
-use Rattle.check_model.specs.Intervals.{Interval, intervals_of}
+use Rattle.check_model.specs.Intervals.{intervals_of}
 use Rattle.unit_model.specs.ConstantScalars.{is_behind, is_left_from_within}
 use Rattle.change_model.specs.declared.fate.Fate.{Fate}
 use Rattle.change_model.specs.declared.fate.Fate.TheVariants as fate
-use Rattle.change_model.specs.Plans.{Plan, is_dead, block_at}
-use Rattle.change_model.specs.PlanRules.{goes, is_skipped, is_nothing, root_of, scalar_left, may_keep_phis, MayStay, MayGo, MayPick, MayFold, MayBeNull, MaySkip, selection, IsResolved, MayBeUnused, FateFits, is_left_within}
-use Rattle.change_model.specs.Passes.{known_before, chosen_way, switched_way, has_one_way, may_become_branch, way_behind, skips_to, goes_to, picks_one, merge_fate, branch_fate, switch_fate, is_free}
+use Rattle.change_model.specs.Plans.{is_dead, block_at}
+use Rattle.change_model.specs.PlanRules.{goes, is_skipped, root_of, scalar_left, may_keep_phis, MayStay, selection, IsResolved, MayBeUnused, FateFits, is_left_within}
+use Rattle.change_model.specs.Passes.{known_before, chosen_way, switched_way, has_one_way, may_become_branch, way_behind, goes_to}
 use Rattle.change_model.proofs.ConditionNames.{inside_at}
 use Rattle.change_model.proofs.FoundPlans.{Found}
 use Rattle.change_model.proofs.FoundGoes.{leaves_to, leaves_only}
 use Rattle.change_model.proofs.FoundKnown.{known_left, result_known, only_chosen, only_switched}
 use Rattle.change_model.proofs.FoundLoops.{may_skip_loop, loop_keeps_test}
-use Rattle.change_model.proofs.FoundOrigins.{Origin, goes_away, by_phi, by_load, by_chain, by_selection, by_loop, by_end, by_branch, by_switch, by_picks, by_folds, origin, alive_fate, alive_never, alive_merge, alive_choice, alive_switch}
+use Rattle.change_model.proofs.FoundOrigins.{Origin, goes_away, by_phi, by_load, by_chain, by_selection, by_loop, by_end, by_branch, by_switch, by_picks, by_folds, origin, alive_fate, alive_choice, alive_switch}
 use Rattle.change_model.proofs.FoundOrigins as source
 use Rattle.change_model.proofs.FoundWithin.{none_within, one_way_default}
 use Rattle.change_model.proofs.LeftPlacedWhole.{outside_silent}

@@ -1,14 +1,13 @@
 -- Where the branches go to which one pass gives one way: it is one of their targets, and the only one by what is known.
-use Rattle.std.proofs.Common.{◌≡◌, ℕ, suc, ◌+◌, ◌-◌, ◌<◌, ◌≤◌, ◌⊎◌, inl, inr, Bool, true, false, not, ◌==◌, ◌||◌, ◌&&◌, if◌then◌else◌, List, [], ◌∷◌, refl, ap, sym, ◌∙◌, subst, arith, Option, None, Some}
-use Rattle.std.proofs.lemmas.Bool.{eqb-true, eq-eqb, or_parts}
+use Rattle.std.proofs.Common.{◌≡◌, ℕ, Bool, true, false, not, ◌==◌, ◌||◌, ◌&&◌, if◌then◌else◌, List, [], ◌∷◌, refl, ap, sym, ◌∙◌, Option, None, Some}
+use Rattle.std.proofs.lemmas.Bool.{eqb-true}
 use Rattle.spirv_model.specs.declared.module.Inst.{Inst}
 use Rattle.spirv_model.specs.declared.op.TheConstants as op
 use Rattle.spirv_model.specs.Operands.{word_at}
-use Rattle.scalar_model.specs.declared.scalar_value.Scalar.{Scalar}
 use Rattle.body_model.specs.Switches.{is_among}
 use Rattle.body_model.specs.Targets.{targets}
 use Rattle.valid_model.specs.Definitions.{inst_at}
-use Rattle.unit_model.specs.ConstantScalars.{constant_scalar, chosen_target, is_behind, leaves_at_once, is_to_merge_of_loop}
+use Rattle.unit_model.specs.ConstantScalars.{constant_scalar, chosen_target, is_behind, is_to_merge_of_loop}
 use Rattle.change_model.specs.declared.fate.Fate.{Fate}
 use Rattle.change_model.specs.declared.fate.Fate.TheVariants as fate
 use Rattle.change_model.specs.Plans.{is_dead, targets_left, leads_from}

@@ -1,22 +1,20 @@
 -- Where branches stay as they are: in the condition sequence of a loop that is left at once, up to the branch that leaves it.
-use Rattle.std.proofs.Common.{◌≡◌, ℕ, zero, suc, ◌+◌, ◌-◌, ◌<◌, ◌≤◌, ◌⊎◌, inl, inr, Bool, true, false, ◌==◌, ◌||◌, ◌&&◌, if◌then◌else◌, List, [], ◌∷◌, length, refl, ap, sym, ◌∙◌, subst, arith, Option, None, Some}
 use Rattle.std.specs.List.{list_any, range_with_len}
+use Rattle.std.proofs.Common.{◌≡◌, ℕ, zero, suc, ◌+◌, ◌<◌, ◌≤◌, inl, inr, Bool, true, false, ◌==◌, ◌||◌, ◌&&◌, if◌then◌else◌, List, length, refl, ap, sym, ◌∙◌, subst, arith, Option, None, Some}
 use Rattle.std.proofs.lemmas.Bool.{cases_lt, eqb-true}
 use Rattle.spirv_model.specs.declared.module.Inst.{Inst}
 use Rattle.spirv_model.specs.declared.op.TheConstants as op
 use Rattle.spirv_model.specs.Operands.{word_at}
-use Rattle.body_model.specs.Switches.{is_among}
-use Rattle.body_model.specs.Targets.{targets}
 use Rattle.valid_model.specs.Definitions.{inst_at}
-use Rattle.change_model.specs.PlanRules.{is_test_of, is_nothing}
-use Rattle.change_model.specs.Passes.{is_label, leaving_to, is_left_loop, opens, next_held, held_at, is_free}
+use Rattle.change_model.specs.PlanRules.{is_test_of}
+use Rattle.change_model.specs.Passes.{is_label, leaving_to, is_left_loop, opens, next_held, held_at}
 use Rattle.change_model.proofs.FoundPlans.{Found}
 use Rattle.change_model.proofs.FoundGoes.{leaves_to, leaves_only}
 use Rattle.change_model.proofs.LeftAlive.{only_among}
 use Rattle.change_model.proofs.LeftBlockNames.{Silent}
 use Rattle.change_model.proofs.LeftPlacedWhole.{outside_silent, labels_once}
 use Rattle.change_model.proofs.LoopNames.{LoopAt, known}
-use Rattle.change_model.proofs.LoopTests.{TestOf, is_test, condition_at, past_test, merge_is, branch_behind, no_inner_loop, only_test}
+use Rattle.change_model.proofs.LoopTests.{is_test, condition_at, past_test, merge_is, branch_behind, no_inner_loop, only_test}
 
 clash : {Q : Type 0} (b : Bool) → b ≡ true → b ≡ false → Q
 clash true is isnt = cc
@@ -119,12 +117,19 @@ module _ (f : Found) where
   held_next place other merge true leaves h held = cc
   held_next place other merge false leaves h held =
       let low = h.low in
-      record { at = h.at; is = h.is; opened = h.opened; own = h.own ∙ some_label other merge held; low = omega (arith, low); high = elim (cases_lt (suc place) (loop_at h.at h.is).first) [
-        | inl less ↦ less
-        | inr most ↦
-            let high = h.high in
-            clash (is_label other (leaving_to insts place)) (subst (λ (n : ℕ). is_label n (leaving_to insts place) ≡ true) h.own (left_there h.at (loop_at h.at h.is) (opened_left h.at h.opened) place (omega (arith, most, high)))) leaves
-      ] }
+      record {
+        at = h.at;
+        is = h.is;
+        opened = h.opened;
+        own = h.own ∙ some_label other merge held;
+        low = omega (arith, low);
+        high = elim (cases_lt (suc place) (loop_at h.at h.is).first) [
+          | inl less ↦ less
+          | inr most ↦
+              let high = h.high in
+              clash (is_label other (leaving_to insts place)) (subst (λ (n : ℕ). is_label n (leaving_to insts place) ≡ true) h.own (left_there h.at (loop_at h.at h.is) (opened_left h.at h.opened) place (omega (arith, most, high)))) leaves
+        ];
+      }
 
   pub held_by : (place merge : ℕ) → held_at insts place ≡ Some merge → HeldBy place merge
   held_by zero merge held = cc

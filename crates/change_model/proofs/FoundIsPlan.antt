@@ -1,7 +1,5 @@
 -- What one pass over a valid module finds is a plan.
-use Rattle.std.proofs.Common.{ℕ, suc, ◌+◌, ◌≡◌, refl, ap, sym, ◌∙◌, arith, false}
-use Rattle.spirv_model.specs.declared.module.Inst.{Inst}
-use Rattle.valid_model.specs.Definitions.{inst_at}
+use Rattle.std.proofs.Common.{ℕ, suc, ◌+◌, ap, ◌∙◌, arith}
 use Rattle.change_model.specs.Plans.{is_dead}
 use Rattle.change_model.specs.PlanRules.{IsPlan}
 use Rattle.change_model.proofs.FoundPlans.{Found}
@@ -9,8 +7,8 @@ use Rattle.change_model.proofs.FoundFits.{Owed, fate_fits}
 use Rattle.change_model.proofs.FoundLabels.{first_alive, same_block, entered_rightly}
 use Rattle.change_model.proofs.LeftScopes.{is_label_at}
 
-pub found_is_plan : (f : Found) → Owed f → IsPlan f.words f.valid f.zeros f.plan
-found_is_plan f owed = record {
+pub is_plan_with : (f : Found) → Owed f → IsPlan f.words f.valid f.zeros f.plan
+is_plan_with f owed = record {
   outside = f.is.outside;
   begins = first_alive f;
   blocks = λ place low high isnt.

@@ -1,20 +1,16 @@
 -- What is known before a place is known of the whole plan; so are the scalars of constants.
-use Rattle.std.proofs.Common.{◌≡◌, ℕ, ◌+◌, ◌<◌, ◌≤◌, Bool, true, false, ◌==◌, nat_lt, if◌then◌else◌, List, [], ◌∷◌, length, refl, ap, sym, ◌∙◌, subst, Option, None, Some}
 use Rattle.std.specs.Option.{option_map, option_and_then}
+use Rattle.std.proofs.Common.{◌≡◌, ℕ, Bool, true, false, ◌==◌, nat_lt, if◌then◌else◌, List, [], ◌∷◌, refl, ap, ◌∙◌, Option, None, Some}
 use Rattle.std.proofs.lemmas.Bool.{eq-eqb}
 use Rattle.spirv_model.specs.declared.module.Inst.{Inst}
 use Rattle.spirv_model.specs.declared.op.TheConstants as op
-use Rattle.spirv_model.specs.Operands.{entry_of, class_of, word_at}
+use Rattle.spirv_model.specs.Operands.{word_at}
 use Rattle.scalar_model.specs.declared.scalar_value.Scalar.{Scalar}
-use Rattle.scalar_model.specs.declared.scalar_value.Scalar.TheVariants as scalar
 use Rattle.valid_model.specs.Definitions.{definition, inst_at}
-use Rattle.valid_model.specs.Meanings.{meaning}
-use Rattle.unit_model.specs.ConstantScalars.{null_scalar, scalar_by, constant_scalar, is_scalar_class, chosen_target}
-use Rattle.change_model.specs.declared.fate.Fate.{Fate}
-use Rattle.change_model.specs.declared.fate.Fate.TheVariants as fate
+use Rattle.unit_model.specs.ConstantScalars.{chosen_target}
 use Rattle.change_model.specs.Folding.{all_constants}
 use Rattle.change_model.specs.Plans.{Plan}
-use Rattle.change_model.specs.PlanRules.{scalar_as, scalar_of, scalar_left, switched_target, only_target, IsResolvedId}
+use Rattle.change_model.specs.PlanRules.{scalar_as, scalar_of, scalar_left, switched_target, only_target}
 use Rattle.change_model.specs.Passes.{scalar_before, known_before, chosen_way, switched_way}
 
 -- ---- before a place

@@ -1,27 +1,23 @@
 -- A label is dead in the plan that one pass finds exactly where nothing still names it.
-use Rattle.std.proofs.Common.{◌≡◌, ℕ, zero, suc, ◌+◌, ◌-◌, ◌<◌, ◌≤◌, ◌⊎◌, inl, inr, Bool, true, false, ◌==◌, ◌||◌, ◌&&◌, if◌then◌else◌, List, [], ◌∷◌, length, refl, ap, sym, ◌∙◌, subst, arith, Option, None, Some}
-use Rattle.std.specs.List.{list_any, range_with_len}
+use Rattle.std.proofs.Common.{◌≡◌, ℕ, zero, suc, ◌+◌, ◌-◌, ◌<◌, ◌≤◌, ◌⊎◌, inl, inr, Bool, true, false, ◌==◌, ◌||◌, if◌then◌else◌, List, refl, ap, sym, ◌∙◌, arith, None}
 use Rattle.std.proofs.lemmas.Bool.{cases_lt, eq-eqb, ne_eqb}
 use Rattle.spirv_model.specs.declared.module.Inst.{Inst}
-use Rattle.spirv_model.specs.declared.op.TheConstants as op
 use Rattle.body_model.proofs.Forward.{forward}
-use Rattle.valid_model.specs.Definitions.{inst_at}
 use Rattle.stage_model.proofs.CodeRuns.{due_of}
-use Rattle.change_model.specs.declared.fate.Fate.{Fate}
 use Rattle.change_model.specs.declared.fate.Fate.TheVariants as fate
 use Rattle.change_model.specs.Plans.{is_dead}
 use Rattle.change_model.specs.PlanRules.{still_names, IsEnteredRightly}
-use Rattle.change_model.specs.Passes.{fate_alive, is_named_before}
+use Rattle.change_model.specs.Passes.{is_named_before}
 use Rattle.change_model.proofs.FoundPlans.{Found}
 use Rattle.change_model.proofs.FoundGoes.{still_named, dead_names}
 use Rattle.change_model.proofs.FoundOrigins.{alive_never, dead_fate, label_found, alive_fate}
 use Rattle.change_model.proofs.LeftAlive.{none_any}
-use Rattle.change_model.proofs.LeftBlockNames.{StandsIn, silent_names}
+use Rattle.change_model.proofs.LeftBlockNames.{silent_names}
 use Rattle.change_model.proofs.LeftChosen.{any_of_range}
 use Rattle.change_model.proofs.LeftPlaced.{due_label}
 use Rattle.change_model.proofs.LeftPlacedWhole.{outside_silent, labels_once}
 use Rattle.change_model.proofs.LeftScopes.{is_label_at, label_at, names}
-use Rattle.change_model.proofs.LoopNames.{Construct, BackTo, Beyond, ahead, back, known}
+use Rattle.change_model.proofs.LoopNames.{Beyond, ahead, back, known}
 
 clash : {Q : Type 0} (b : Bool) → b ≡ true → b ≡ false → Q
 clash true is isnt = cc

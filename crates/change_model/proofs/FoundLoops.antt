@@ -1,6 +1,5 @@
 -- A loop that is left at once goes with its condition sequence; one that stays keeps the branch that leaves it.
-use Rattle.std.proofs.Common.{◌≡◌, ℕ, ◌+◌, ◌-◌, ◌<◌, ◌≤◌, Bool, true, false, ◌==◌, ◌&&◌, if◌then◌else◌, List, refl, ap, sym, ◌∙◌, subst, arith, Option, None, Some}
-use Rattle.spirv_model.specs.declared.module.Inst.{Inst}
+use Rattle.std.proofs.Common.{◌≡◌, ℕ, ◌-◌, Bool, true, false, ◌==◌, if◌then◌else◌, refl, ap, sym, ◌∙◌, subst, arith, Some}
 use Rattle.spirv_model.specs.declared.op.TheConstants as op
 use Rattle.spirv_model.specs.Operands.{word_at}
 use Rattle.valid_model.specs.Definitions.{inst_at}
@@ -12,7 +11,7 @@ use Rattle.change_model.specs.PlanRules.{goes, is_test_of, MaySkip, loop}
 use Rattle.change_model.specs.Passes.{opens, held_at}
 use Rattle.change_model.proofs.FoundPlans.{Found}
 use Rattle.change_model.proofs.FoundConditions.{test_goes}
-use Rattle.change_model.proofs.FoundHeld.{loop_within, loop_at, leaves_test, test_place, HeldBy, held_by, one_loop}
+use Rattle.change_model.proofs.FoundHeld.{loop_within, loop_at, leaves_test, test_place, held_by, one_loop}
 use Rattle.change_model.proofs.FoundOrigins.{Origin, goes_away, by_phi, by_load, by_chain, by_selection, by_loop, by_end, by_branch, by_switch, by_picks, by_folds, origin, dead_fate, alive_fate, alive_loop}
 use Rattle.change_model.proofs.FoundOrigins as source
 use Rattle.change_model.proofs.LoopTests.{test_of}

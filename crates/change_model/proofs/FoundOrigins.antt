@@ -1,6 +1,6 @@
 -- Where each fate comes from in the plan that one pass finds.
-use Rattle.std.proofs.Common.{◌≡◌, ℕ, suc, ◌+◌, ◌-◌, ◌<◌, ◌≤◌, ◌⊎◌, inl, inr, Bool, true, false, not, ◌==◌, ◌||◌, ◌&&◌, if◌then◌else◌, List, [], ◌∷◌, length, refl, ap, sym, ◌∙◌, subst, arith, Option, None, Some}
 use Rattle.std.specs.Option.{option_and_then}
+use Rattle.std.proofs.Common.{◌≡◌, ℕ, suc, ◌+◌, ◌-◌, ◌<◌, inl, inr, Bool, true, false, not, ◌==◌, ◌||◌, ◌&&◌, if◌then◌else◌, List, [], ◌∷◌, refl, sym, ◌∙◌, subst, Option, None, Some}
 use Rattle.std.proofs.lemmas.Bool.{cases_lt, eqb-true}
 use Rattle.spirv_model.specs.declared.op.TheConstants as op
 use Rattle.spirv_model.specs.Operands.{word_at, words_from, class_of}
@@ -15,7 +15,7 @@ use Rattle.change_model.specs.declared.fate.Fate.TheVariants as fate
 use Rattle.change_model.specs.Folding.{all_constants}
 use Rattle.change_model.specs.Plans.{is_dead, block_at}
 use Rattle.change_model.specs.PlanRules.{is_skipped, is_zero_input, root_of}
-use Rattle.change_model.specs.Passes.{is_free, opens, held_at, is_label, leaving_to, known_before, chosen_way, switched_way, has_one_way, way_behind, skips_to, goes_to, picks_one, folds_to, merge_fate, test_fate, branch_fate, switch_fate, heads_loop, keeps_phis, stands_at, pairs_found, phi_fate_of, phi_fate, operation_fate, fate_alive, is_named_before, label_fate, fate_found}
+use Rattle.change_model.specs.Passes.{is_free, opens, held_at, is_label, leaving_to, known_before, chosen_way, switched_way, has_one_way, way_behind, skips_to, goes_to, picks_one, folds_to, merge_fate, test_fate, branch_fate, switch_fate, heads_loop, keeps_phis, stands_at, pairs_found, phi_fate_of, fate_alive, is_named_before, label_fate, fate_found}
 use Rattle.change_model.proofs.FoundPlans.{Found, found_at}
 use Rattle.change_model.proofs.LeftScopes.{is_label_at}
 

@@ -1,9 +1,8 @@
 -- Where an arm isn't left from within in the module, it isn't in the list that the plan makes.
-use Rattle.std.proofs.Common.{◌≡◌, ℕ, suc, ◌+◌, ◌-◌, Bool, true, false, not, ◌==◌, ◌&&◌, ◌||◌, nat_le, if◌then◌else◌, List, [], ◌∷◌, length, filter, drop, slice_index, refl, ap, sym, ◌∙◌, arith, Option, None, Some}
 use Rattle.std.specs.List.{list_any, range_with_len}
+use Rattle.std.proofs.Common.{◌≡◌, ℕ, suc, ◌-◌, Bool, true, false, ◌==◌, ◌&&◌, ◌||◌, if◌then◌else◌, List, [], ◌∷◌, length, filter, drop, slice_index, refl, ap, sym, ◌∙◌, arith, Option, Some}
 use Rattle.std.proofs.lemmas.Bool.{eqb-true}
 use Rattle.spirv_model.specs.declared.module.Inst.{Inst}
-use Rattle.spirv_model.specs.declared.op.TheConstants as op
 use Rattle.spirv_model.specs.Operands.{word_at, words_from}
 use Rattle.scalar_model.specs.declared.scalar_value.Scalar.{Scalar}
 use Rattle.scalar_model.specs.declared.scalar_value.Scalar.TheVariants as scalar
@@ -13,9 +12,9 @@ use Rattle.valid_model.specs.Definitions.{inst_at}
 use Rattle.check_model.specs.Intervals.{Interval, intervals_of}
 use Rattle.stage_model.specs.Effect.{target_for}
 use Rattle.unit_model.specs.ConstantScalars.{begins_at, is_nested, is_left_to, is_left_from_within}
-use Rattle.change_model.specs.Plans.{Plan, leads_from}
+use Rattle.change_model.specs.Plans.{leads_from}
 use Rattle.change_model.specs.PlanRules.{remains, intervals_left, is_left_in, is_left_within, switched_target}
-use Rattle.change_model.specs.Passes.{has_one_way, may_become_branch, switched_way, known_before}
+use Rattle.change_model.specs.Passes.{has_one_way}
 use Rattle.change_model.proofs.FoundPlans.{Found}
 use Rattle.change_model.proofs.FoundGoes.{still_leads}
 

@@ -1,37 +1,34 @@
 -- Each label that an instruction names stands later, or is that of the header of a loop around it; of such a loop no label but that of its
 -- header is named before it.
-use Rattle.std.proofs.Common.{◌≡◌, ℕ, ◌+◌, ◌-◌, ◌<◌, ◌≤◌, ◌⊎◌, inl, inr, Bool, true, false, ◌==◌, List, [], ◌∷◌, ◌++◌, length, slice_index, refl, ap, sym, ◌∙◌, subst, arith, Option, None, Some}
+use Rattle.std.proofs.Common.{◌≡◌, ℕ, ◌+◌, ◌<◌, ◌≤◌, inl, inr, Bool, true, false, ◌==◌, List, ◌++◌, refl, ◌∙◌, subst, arith, Option, None, Some}
 use Rattle.std.proofs.lemmas.Bool.{cases_lt, eqb-true}
 use Rattle.spirv_model.specs.declared.module.Inst.{Inst}
 use Rattle.spirv_model.specs.declared.module.Words.{Words}
 use Rattle.spirv_model.specs.declared.op.TheConstants as op
-use Rattle.spirv_model.specs.Operands.{word_at}
 use Rattle.body_model.specs.declared.block_end.BlockEnd.{BlockEnd}
 use Rattle.body_model.specs.declared.block_end.BlockEnd.TheVariants as way
 use Rattle.body_model.specs.declared.block_end.LoopHead.{LoopHead}
 use Rattle.body_model.specs.Blocks.{block_end}
 use Rattle.body_model.specs.Due.{IsDue}
-use Rattle.body_model.specs.Scope.{Scope, main, behind_block, behind_selection, behind_loop, arm, switch_arm, condition, body, continuing}
+use Rattle.body_model.specs.Scope.{Scope, main, behind_loop, arm, switch_arm, condition, body, continuing}
 use Rattle.body_model.specs.Switches.{is_among, without, labels_of}
-use Rattle.body_model.specs.Targets.{targets, MayLeaveTo}
+use Rattle.body_model.specs.Targets.{MayLeaveTo}
 use Rattle.body_model.specs.Grammar.{Sequence, ends, goes_on, selects, picks, loops, Arm, straight, through, Arms, no_arm, arm_behind, Derives}
 use Rattle.body_model.proofs.Forward.{sound_at, forward, arm_forward, arms_forward}
 use Rattle.body_model.proofs.Shapes.{IsWhole, after_of}
 use Rattle.valid_model.specs.Definitions.{inst_at}
-use Rattle.check_model.specs.Intervals.{Interval, around, inside, of_arm, of_arms}
+use Rattle.check_model.specs.Intervals.{around, inside}
 use Rattle.check_model.specs.Validity.{IsValidList}
 use Rattle.stage_model.proofs.CodeRuns.{due_of, one_name, other_name, stands_as, at_behind, among_arms}
 use Rattle.stage_model.proofs.Exits.{arm_exit, switch_exit, condition_exit, body_exit, continue_exit}
 use Rattle.stage_model.proofs.StageRuns.{nowhere}
-use Rattle.stage_model.proofs.WholeBlocks.{BlockAt}
-use Rattle.unit_model.specs.ConstantScalars.{is_behind}
 use Rattle.change_model.proofs.ConditionNames.{HasLoop, loop_place}
-use Rattle.change_model.proofs.LeftBlockNames.{StandsIn, stands_due, stands_wider, Merged, inst_there, second_there}
+use Rattle.change_model.proofs.LeftBlockNames.{StandsIn, stands_due, stands_wider}
 use Rattle.change_model.proofs.LeftCuts.{LabelsOnce}
-use Rattle.change_model.proofs.LeftFronts.{OldBlock, old_block}
+use Rattle.change_model.proofs.LeftFronts.{old_block}
 use Rattle.change_model.proofs.LeftLeaves.{block_names}
 use Rattle.change_model.proofs.LeftMerges.{arms_first, switched}
-use Rattle.change_model.proofs.LeftPlaced.{IsArmPlaced, stands_at_due}
+use Rattle.change_model.proofs.LeftPlaced.{IsArmPlaced}
 use Rattle.change_model.proofs.LeftPlaced as placed
 use Rattle.change_model.proofs.LeftPlacedArms.{AreArmsPlaced}
 use Rattle.change_model.proofs.LeftPlacedArms as placed_switch
@@ -141,18 +138,24 @@ module _ (insts : List Inst) (once : LabelsOnce insts) (d : Derives insts) where
     pub known_at : {scope : Scope} {wanted next : Option ℕ} {from to : ℕ} (s : Sequence insts scope wanted from to next) → Placed insts d scope next from to (inside s) → Exits insts d scope next from to → Reached scope next from to
     known_at {scope} {wanted} {next} {from} {to} (ends last here is label_is place_is) p exits place low high =
         let w = (sound_at insts scope from (way.Ends last) is).0.within in
-        record { loop = no_loop scope wanted from (way.Ends last) here is tt (λ none. none) place low (omega (arith, high, place_is)); named = λ label named. block_names {Q = λ label. Beyond insts d place (place + 1) label} insts scope wanted from (way.Ends last) here is tt w
-        (λ b label among. nearer insts d from to place (place + 1) label low (omega (arith, high)) (exits label (subst (λ (n : Option ℕ). MayLeaveTo scope n label) label_is (b.ends label among))))
-        (λ label none. absurd none) place label low (omega (arith, high, place_is)) named }
+        record {
+          loop = no_loop scope wanted from (way.Ends last) here is tt (λ none. none) place low (omega (arith, high, place_is));
+          named = λ label named. block_names {Q = λ label. Beyond insts d place (place + 1) label} insts scope wanted from (way.Ends last) here is tt w
+              (λ b label among. nearer insts d from to place (place + 1) label low (omega (arith, high)) (exits label (subst (λ (n : Option ℕ). MayLeaveTo scope n label) label_is (b.ends label among))))
+              (λ label none. absurd none) place label low (omega (arith, high, place_is)) named;
+        }
     known_at {scope} {wanted} {next} {from} {to} (goes_on after here is rest) p exits place low high = elim (cases_lt place after) [
-      | inl early ↦ record { loop = no_loop scope wanted from (way.GoesOn after) here is tt (λ none. none) place low early; named = λ label named. (
-          let f = sound_at insts scope from (way.GoesOn after) is in
-          let g = (forward insts rest).forward in
-          let h = p.high in
-          block_names {Q = λ label. Beyond insts d place (place + 1) label} insts scope wanted from (way.GoesOn after) here is tt f.within
-          (λ b label among. due_ahead place after label b.ends.0 early (omega (arith, g, h)) (one_name label b.ends.0 _ b.ends.1 among)
-          (stands_as insts None b.ends.0 after b.behind (at_behind insts scope from (way.GoesOn after) b) b.ends.2 (due_of rest)))
-          (λ label none. absurd none) place label low early named) }
+      | inl early ↦ record {
+        loop = no_loop scope wanted from (way.GoesOn after) here is tt (λ none. none) place low early;
+        named = λ label named. (
+            let f = sound_at insts scope from (way.GoesOn after) is in
+            let g = (forward insts rest).forward in
+            let h = p.high in
+            block_names {Q = λ label. Beyond insts d place (place + 1) label} insts scope wanted from (way.GoesOn after) here is tt f.within
+            (λ b label among. due_ahead place after label b.ends.0 early (omega (arith, g, h)) (one_name label b.ends.0 _ b.ends.1 among)
+            (stands_as insts None b.ends.0 after b.behind (at_behind insts scope from (way.GoesOn after) b) b.ends.2 (due_of rest)))
+            (λ label none. absurd none) place label low early named);
+      }
       | inr late ↦
           let f = (sound_at insts scope from (way.GoesOn after) is).forward in
           known_at rest (placed.placed_next insts once d scope wanted next from to after here is rest p) (later_exits scope next from to after (omega (arith, f)) exits) place late high
@@ -166,14 +169,17 @@ module _ (insts : List Inst) (once : LabelsOnce insts) (d : Derives insts) where
         let h = p.high in
         let merges : (label : ℕ) → place < join → label ≡ head.merge → Beyond insts d place (place + 1) label = λ label less same. due_ahead place join label head.merge less (omega (arith, g, h)) same (due_of rest) in
         elim (cases_lt place head.after) [
-          | inl early ↦ record { loop = no_loop scope wanted from (way.Selects head) here is tt (λ none. none) place low early; named = λ label named. (
-              let in_true : (label : ℕ) → label ≡ head.on_true → Beyond insts d place (place + 1) label =
-              λ label same. arm_ahead place label same early (omega (arith, b, g, h)) (λ is_merge. merges label (omega (arith, early, a, b)) is_merge) on_true in
-              let in_false : (label : ℕ) → label ≡ head.on_false → Beyond insts d place (place + 1) label =
-              λ label same. arm_ahead place label same (omega (arith, early, a)) (omega (arith, g, h)) (λ is_merge. merges label (omega (arith, early, a, b)) is_merge) on_false in
-              block_names {Q = λ label. Beyond insts d place (place + 1) label} insts scope wanted from (way.Selects head) here is tt f.within
-              (λ block label among. test_label (label == head.on_true) (λ same. in_true label (eqb-true label head.on_true same)) (λ differs. in_false label (other_name label head.on_true head.on_false _ block.ends among differs)))
-              (λ label merged. elim merged [ inl same ↦ merges label (omega (arith, early, a, b)) same | inr (inl same) ↦ in_true label same | inr (inr same) ↦ in_false label same ]) place label low early named) }
+          | inl early ↦ record {
+            loop = no_loop scope wanted from (way.Selects head) here is tt (λ none. none) place low early;
+            named = λ label named. (
+                let in_true : (label : ℕ) → label ≡ head.on_true → Beyond insts d place (place + 1) label =
+                λ label same. arm_ahead place label same early (omega (arith, b, g, h)) (λ is_merge. merges label (omega (arith, early, a, b)) is_merge) on_true in
+                let in_false : (label : ℕ) → label ≡ head.on_false → Beyond insts d place (place + 1) label =
+                λ label same. arm_ahead place label same (omega (arith, early, a)) (omega (arith, g, h)) (λ is_merge. merges label (omega (arith, early, a, b)) is_merge) on_false in
+                block_names {Q = λ label. Beyond insts d place (place + 1) label} insts scope wanted from (way.Selects head) here is tt f.within
+                (λ block label among. test_label (label == head.on_true) (λ same. in_true label (eqb-true label head.on_true same)) (λ differs. in_false label (other_name label head.on_true head.on_false _ block.ends among differs)))
+                (λ label merged. elim merged [ inl same ↦ merges label (omega (arith, early, a, b)) same | inr (inl same) ↦ in_true label same | inr (inr same) ↦ in_false label same ]) place label low early named);
+          }
           | inr late ↦ elim (cases_lt place second) [
             | inl first ↦ arm_known on_true (placed.placed_true insts once d scope wanted next from to head second join here is on_true on_false rest p)
                 (arm_exits scope head.merge next from to head.after second join (omega (arith, f')) b (omega (arith, b, g)) (omega (arith, g, h)) (due_of rest) exits) place late first
@@ -193,15 +199,18 @@ module _ (insts : List Inst) (once : LabelsOnce insts) (d : Derives insts) where
         let h = p.high in
         let merges : (label : ℕ) → place < join → label ≡ head.merge → Beyond insts d place (place + 1) label = λ label less same. due_ahead place join label head.merge less (omega (arith, g, h)) same (due_of rest) in
         elim (cases_lt place head.after) [
-          | inl early ↦ record { loop = no_loop scope wanted from (way.Picks head) here is tt (λ none. none) place low early; named = λ label named. (
-              let in_arm : (label : ℕ) → is_among label (labels_of insts head) ≡ true → Beyond insts d place (place + 1) label =
-              λ label among. ahead (stands_wider insts head.after join (place + 1) d.after label (omega (arith, early)) (omega (arith, g, h)) (arms_first insts arms label among refl)) in
-              block_names {Q = λ label. Beyond insts d place (place + 1) label} insts scope wanted from (way.Picks head) here is tt f.within
-              (λ block label among. test_label (label == head.merge) (λ same. merges label (omega (arith, early, a)) (eqb-true label head.merge same)) (λ differs. in_arm label (among_arms insts scope from head block label among differs)))
-              (λ label merged. elim merged [
-                | inl same ↦ merges label (omega (arith, early, a)) same
-                | inr branch ↦ elim (switched insts scope wanted from head here is label branch.0 branch.1) [ inl same ↦ merges label (omega (arith, early, a)) same | inr among ↦ in_arm label among ]
-              ]) place label low early named) }
+          | inl early ↦ record {
+            loop = no_loop scope wanted from (way.Picks head) here is tt (λ none. none) place low early;
+            named = λ label named. (
+                let in_arm : (label : ℕ) → is_among label (labels_of insts head) ≡ true → Beyond insts d place (place + 1) label =
+                λ label among. ahead (stands_wider insts head.after join (place + 1) d.after label (omega (arith, early)) (omega (arith, g, h)) (arms_first insts arms label among refl)) in
+                block_names {Q = λ label. Beyond insts d place (place + 1) label} insts scope wanted from (way.Picks head) here is tt f.within
+                (λ block label among. test_label (label == head.merge) (λ same. merges label (omega (arith, early, a)) (eqb-true label head.merge same)) (λ differs. in_arm label (among_arms insts scope from head block label among differs)))
+                (λ label merged. elim merged [
+                  | inl same ↦ merges label (omega (arith, early, a)) same
+                  | inr branch ↦ elim (switched insts scope wanted from head here is label branch.0 branch.1) [ inl same ↦ merges label (omega (arith, early, a)) same | inr among ↦ in_arm label among ]
+                ]) place label low early named);
+          }
           | inr late ↦ elim (cases_lt place join) [
             | inl within ↦ arms_known head.after arms (placed_switch.placed_arms insts once d scope wanted next from to head join here is arms rest p) next from to join (omega (arith, f')) (omega arith) (omega (arith, g)) (omega (arith, g, h)) (due_of rest)
                 exits place late within
@@ -219,33 +228,33 @@ module _ (insts : List Inst) (once : LabelsOnce insts) (d : Derives insts) where
         let merge_exit : (low high label : ℕ) → high ≤ third → label ≡ head.merge → Beyond insts d low high label = λ low high label most same. exit_due low high third label head.merge most (omega (arith, g, h)) same (due_of rest) in
         elim (cases_lt place head.after) [
           | inl early ↦ record {
-              loop = λ merge. record {
-                scope = scope;
-                wanted = wanted;
-                next = next;
-                from = from;
-                to = to;
-                head = head;
-                inner = inner;
-                first = first;
-                second = second;
-                third = third;
-                here = here;
-                is = is;
-                tested = tested;
-                within = within;
-                step = step;
-                rest = rest;
-                placed = p;
-                at = (loop_place insts scope None from 0 (way.Loops head) (old_block insts scope wanted from (way.Loops head) here is tt) tt place low early merge).1;
-              };
-              named = λ label named. block_names {Q = λ label. Beyond insts d place (place + 1) label} insts scope wanted from (way.Loops head) here is tt f.within
-              (λ b label among. due_ahead place head.after label head.test early (omega (arith, t, q, r, g, h)) (one_name label head.test _ b.ends.0 among) (due_of tested))
-              (λ label merged. elim merged [
-                | inl same ↦ merge_exit place (place + 1) label (omega (arith, early, t, q, r)) same
-                | inr same ↦ due_ahead place second label head.next (omega (arith, early, t, q)) (omega (arith, r, g, h)) same (due_of step)
-              ]) place label low early named;
-            }
+            loop = λ merge. record {
+              scope = scope;
+              wanted = wanted;
+              next = next;
+              from = from;
+              to = to;
+              head = head;
+              inner = inner;
+              first = first;
+              second = second;
+              third = third;
+              here = here;
+              is = is;
+              tested = tested;
+              within = within;
+              step = step;
+              rest = rest;
+              placed = p;
+              at = (loop_place insts scope None from 0 (way.Loops head) (old_block insts scope wanted from (way.Loops head) here is tt) tt place low early merge).1;
+            };
+            named = λ label named. block_names {Q = λ label. Beyond insts d place (place + 1) label} insts scope wanted from (way.Loops head) here is tt f.within
+                (λ b label among. due_ahead place head.after label head.test early (omega (arith, t, q, r, g, h)) (one_name label head.test _ b.ends.0 among) (due_of tested))
+                (λ label merged. elim merged [
+                  | inl same ↦ merge_exit place (place + 1) label (omega (arith, early, t, q, r)) same
+                  | inr same ↦ due_ahead place second label head.next (omega (arith, early, t, q)) (omega (arith, r, g, h)) same (due_of step)
+                ]) place label low early named;
+          }
           | inr late ↦ elim (cases_lt place first) [
             | inl one ↦ known_at tested (placed_loop.placed_test insts once d scope wanted next from to head inner first second third here is tested within step rest p)
                 (λ label may. test_label (label == head.merge) (λ same. merge_exit head.after first label (omega (arith, q, r)) (eqb-true label head.merge same))

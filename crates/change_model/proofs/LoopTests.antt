@@ -1,20 +1,20 @@
 -- The loop whose OpLoopMerge stands at a place: its merge block, its condition sequence, and the one branch that leaves it from there.
-use Rattle.std.proofs.Common.{◌≡◌, ℕ, ◌+◌, ◌-◌, ◌<◌, ◌≤◌, ◌⊎◌, inl, inr, Bool, true, false, not, ◌==◌, ◌&&◌, List, [], ◌∷◌, slice_index, refl, ap, sym, ◌∙◌, subst, arith, Option, None, Some}
+use Rattle.std.proofs.Common.{◌≡◌, ℕ, ◌+◌, ◌<◌, ◌≤◌, ◌⊎◌, inl, inr, Bool, true, false, not, ◌==◌, ◌&&◌, List, slice_index, refl, ap, sym, ◌∙◌, arith, None}
 use Rattle.std.proofs.lemmas.Bool.{cases_lt, eqb-true}
 use Rattle.spirv_model.specs.declared.module.Inst.{Inst}
 use Rattle.spirv_model.specs.declared.op.TheConstants as op
 use Rattle.spirv_model.specs.Operands.{word_at}
 use Rattle.body_model.specs.declared.block_end.BlockEnd.TheVariants as way
-use Rattle.body_model.specs.Scope.{Scope, behind_loop, condition, body, continuing}
+use Rattle.body_model.specs.Scope.{Scope, body, continuing}
 use Rattle.body_model.specs.Switches.{is_among}
-use Rattle.body_model.specs.Targets.{targets, MayLeaveTo}
+use Rattle.body_model.specs.Targets.{targets}
 use Rattle.body_model.specs.Grammar.{Derives}
+use Rattle.body_model.proofs.Forward.{forward}
 use Rattle.valid_model.specs.Definitions.{inst_at}
-use Rattle.body_model.proofs.Forward.{sound_at, forward}
 use Rattle.stage_model.proofs.CodeRuns.{due_of}
 use Rattle.unit_model.specs.ConstantScalars.{is_behind}
 use Rattle.change_model.specs.PlanRules.{is_test_of}
-use Rattle.change_model.proofs.ConditionNames.{NamedIn, Tested, Inside, in_block, inside_at, target_names, none_tested}
+use Rattle.change_model.proofs.ConditionNames.{NamedIn, Inside, in_block, inside_at, target_names, none_tested}
 use Rattle.change_model.proofs.LeftBlockNames.{StandsIn, inst_there, second_there}
 use Rattle.change_model.proofs.LeftCuts.{LabelsOnce}
 use Rattle.change_model.proofs.LeftEnds.{way as way_of}
