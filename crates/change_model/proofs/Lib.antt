@@ -179,3 +179,17 @@ pub mod PlanRunsLevel
 pub mod PlanRunsStores
 pub mod PlanRunsZeros
 pub mod FoundPlans
+pub mod AlikeTypes
+pub mod AlikeMemory
+pub mod AlikeComposites
+pub mod AlikeScalars
+pub mod AlikeWords
+pub mod AlikeEnds
+pub mod LevelScalars
+pub mod NamedTypes
+pub mod ScalarsFit
+pub mod PlanSound
+pub mod NamedAlike
+pub mod PlanOperands
+pub mod PlanStorage
+pub mod PlanValid
