@@ -49,7 +49,7 @@ any_at p (suc k) (inst ∷ insts) is = by_test (any_at p k insts) (p inst) refl 
         let l = r.less in let w = r.within in
         record { place = suc r.place; less = omega (arith, l); within = omega (arith, w); passes = r.passes }
 
-any_there : (p : Inst → Bool) (k : ℕ) (insts : List Inst) (place : ℕ) → place < k → place < length insts → p (inst_at insts place) ≡ true → list_any p (take k insts) ≡ true
+pub any_there : (p : Inst → Bool) (k : ℕ) (insts : List Inst) (place : ℕ) → place < k → place < length insts → p (inst_at insts place) ≡ true → list_any p (take k insts) ≡ true
 any_there p zero insts place less within is = absurd (omega (arith, less))
 any_there p (suc k) [] place less within is = absurd (omega (arith, within))
 any_there p (suc k) (inst ∷ insts) zero less within is = ap (λ (b : Bool). b || list_any p (take k insts)) is

@@ -69,7 +69,7 @@ unfolding class_of entry_of
 one_null = refl
 
 -- what is a scalar by itself is a constant
-scalar_constant_class : (insts : List Inst) (inst : Inst) (scalar : Scalar) → scalar_by insts inst ≡ Some scalar → is_plain_constant_class (class_of inst.op) ≡ true
+pub scalar_constant_class : (insts : List Inst) (inst : Inst) (scalar : Scalar) → scalar_by insts inst ≡ Some scalar → is_plain_constant_class (class_of inst.op) ≡ true
 scalar_constant_class insts inst scalar is = by_tests (inst.op == op.CONSTANT) refl (inst.op == op.CONSTANT_TRUE) refl (inst.op == op.CONSTANT_FALSE) refl (inst.op == op.CONSTANT_NULL) refl is
   where
     is_one : (opcode : ℕ) → is_plain_constant_class (class_of opcode) ≡ true → inst.op == opcode ≡ true → is_plain_constant_class (class_of inst.op) ≡ true

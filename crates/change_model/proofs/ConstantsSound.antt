@@ -54,7 +54,7 @@ keeps_all words sound place within =
 
 -- ---- none at any place of the new one
 
-no_fault : (fault_at : ℕ → Option TypeFault) (n : ℕ) → ((place : ℕ) → place < n → fault_at place ≡ None) → first_fault fault_at n ≡ None
+pub no_fault : (fault_at : ℕ → Option TypeFault) (n : ℕ) → ((place : ℕ) → place < n → fault_at place ≡ None) → first_fault fault_at n ≡ None
 no_fault fault_at zero none = refl
 no_fault fault_at (suc n) none =
     ap (λ (o : Option TypeFault). option_or o (fault_at n)) (no_fault fault_at n (λ place less. none place (omega (arith, less)))) ∙ none n (omega arith)
@@ -62,7 +62,7 @@ no_fault fault_at (suc n) none =
 rules_kept : (place : ℕ) (twice : Option ℕ) (outside misdeclared unfit : Bool) → twice ≡ None → outside ≡ false → misdeclared ≡ false → unfit ≡ false → fault_of place twice outside misdeclared unfit ≡ None
 rules_kept place twice outside misdeclared unfit a b c d = rw a (rw b (rw c (rw d refl)))
 
-no_rule_fault : (words : Words) (place : ℕ) → id_twice words.insts place ≡ None → id_out_of_bound words.bound (inst_at words.insts place) ≡ false → bad_type words.insts place ≡ false → bad_constant words.insts place ≡ false
+pub no_rule_fault : (words : Words) (place : ℕ) → id_twice words.insts place ≡ None → id_out_of_bound words.bound (inst_at words.insts place) ≡ false → bad_type words.insts place ≡ false → bad_constant words.insts place ≡ false
     → bad_decoration words.insts place ≡ false → type_fault_at words place ≡ None
 unfolding rule_fault
 no_rule_fault words place once inside types constants decorations =

@@ -156,10 +156,10 @@ interface_settled f s words sound = record {
 
 -- ---- uses
 
-record NoUseFault (intervals : List Interval) (insts : List Inst) (place : ℕ) : Type 0 where
-  visible : not_visible intervals insts place ≡ None
-  operands : has_bad_operands insts place ≡ false
-  storage : has_wrong_storage insts place ≡ false
+pub record NoUseFault (intervals : List Interval) (insts : List Inst) (place : ℕ) : Type 0 where
+  pub visible : not_visible intervals insts place ≡ None
+  pub operands : has_bad_operands insts place ≡ false
+  pub storage : has_wrong_storage insts place ≡ false
 
 no_use_fault : (intervals : List Interval) (insts : List Inst) (place : ℕ) → use_fault_at intervals insts place ≡ None → NoUseFault intervals insts place
 unfolding use_fault_at
@@ -171,7 +171,7 @@ no_use_fault intervals insts place is = by_cases (not_visible intervals insts pl
     by_cases None false true seen fit stored is = cc
     by_cases None false false seen fit stored is = record { visible = seen; operands = fit; storage = stored }
 
-use_faultless : (intervals : List Interval) (insts : List Inst) (place : ℕ) → NoUseFault intervals insts place → use_fault_at intervals insts place ≡ None
+pub use_faultless : (intervals : List Interval) (insts : List Inst) (place : ℕ) → NoUseFault intervals insts place → use_fault_at intervals insts place ≡ None
 unfolding use_fault_at
 use_faultless intervals insts place n = rw n.visible (rw n.operands (rw n.storage refl))
 
@@ -185,7 +185,7 @@ no_first fault_at (suc n) place none less =
     let e = none_of_both (first_use_fault fault_at n) (fault_at n) none in
     elim (cases_lt place n) [ inl early ↦ no_first fault_at n place e.0 early | inr late ↦ ap fault_at (omega arith) ∙ e.1 ]
 
-none_at_all : (fault_at : ℕ → Option CheckFault) (n : ℕ) → ((place : ℕ) → place < n → fault_at place ≡ None) → first_use_fault fault_at n ≡ None
+pub none_at_all : (fault_at : ℕ → Option CheckFault) (n : ℕ) → ((place : ℕ) → place < n → fault_at place ≡ None) → first_use_fault fault_at n ≡ None
 none_at_all fault_at zero none = refl
 none_at_all fault_at (suc n) none =
     ap (λ (o : Option CheckFault). option_or o (fault_at n)) (none_at_all fault_at n (λ place less. none place (omega (arith, less)))) ∙ none n (omega arith)
@@ -221,13 +221,13 @@ uses_settled f words d both sound good =
 
 -- ---- the whole list
 
-none_of : (a b c e : Option CheckFault) → option_or a (option_or b (option_or c e)) ≡ None → (a ≡ None) × (b ≡ None) × (c ≡ None) × (e ≡ None)
+pub none_of : (a b c e : Option CheckFault) → option_or a (option_or b (option_or c e)) ≡ None → (a ≡ None) × (b ≡ None) × (c ≡ None) × (e ≡ None)
 none_of None None None e is = (refl, refl, refl, is)
 none_of (Some reason) b c e is = cc
 none_of None (Some reason) c e is = cc
 none_of None None (Some reason) e is = cc
 
-all_none : (a b c e : Option CheckFault) → a ≡ None → b ≡ None → c ≡ None → e ≡ None → option_or a (option_or b (option_or c e)) ≡ None
+pub all_none : (a b c e : Option CheckFault) → a ≡ None → b ≡ None → c ≡ None → e ≡ None → option_or a (option_or b (option_or c e)) ≡ None
 all_none a b c e p q r t = rw p (rw q (rw r t))
 
 pub faultless_settled : (f : Inst → Inst) (words : Words) (d : Derives words.insts) (both : Sides f words.insts d) → type_fault words ≡ None → list_fault (intervals_of d) words.insts ≡ None

@@ -14,7 +14,7 @@ use Rattle.change_model.proofs.ConstantOperands.{alone_behind}
 use Rattle.change_model.proofs.ConstantsSound.{keeps_all}
 use Rattle.change_model.proofs.FoldedPlaces.{same_or_not, StoodAt, stood_at, level_front, constant_there}
 
-no_constant : (known : Knowledge) (inst : Inst) → is_constant inst.op ≡ false → breaks_constants known inst ≡ false
+pub no_constant : (known : Knowledge) (inst : Inst) → is_constant inst.op ≡ false → breaks_constants known inst ≡ false
 no_constant known inst isnt = ap (λ (b : Bool). b && not (constant_fits known inst)) isnt
 
 unfit_at : (words : Words) (v : IsValidList words) (gone : ℕ) (constant : Inst) (place : ℕ) → StoodAt words.insts v.derivation gone constant place

@@ -195,3 +195,17 @@ pub mod FoundLoops
 pub mod FoundWithin
 pub mod FoundFits
 pub mod FoundIsPlan
+pub mod AlikeTypes
+pub mod AlikeMemory
+pub mod AlikeComposites
+pub mod AlikeScalars
+pub mod AlikeWords
+pub mod AlikeEnds
+pub mod LevelScalars
+pub mod NamedTypes
+pub mod ScalarsFit
+pub mod PlanSound
+pub mod NamedAlike
+pub mod PlanOperands
+pub mod PlanStorage
+pub mod PlanValid

@@ -53,15 +53,15 @@ Renames name inst = is_some (kinds inst) ≡ true → IsRenamed name inst
 
 -- ---- words
 
-literals_stay : (name : ℕ → ℕ) (words : List ℕ) → renamed_words name (map (λ _. LiteralInteger) words) words ≡ words
+pub literals_stay : (name : ℕ → ℕ) (words : List ℕ) → renamed_words name (map (λ _. LiteralInteger) words) words ≡ words
 literals_stay name [] = refl
 literals_stay name (word ∷ words) = ap (λ (l : List ℕ). word ∷ l) (literals_stay name words)
 
-ids_renamed : (name : ℕ → ℕ) (words : List ℕ) → renamed_words name (map (λ _. IdRef) words) words ≡ map name words
+pub ids_renamed : (name : ℕ → ℕ) (words : List ℕ) → renamed_words name (map (λ _. IdRef) words) words ≡ map name words
 ids_renamed name [] = refl
 ids_renamed name (word ∷ words) = ap (λ (l : List ℕ). name word ∷ l) (ids_renamed name words)
 
-all_used : (words : List ℕ) → used_among (map (λ _. IdRef) words) words ≡ words
+pub all_used : (words : List ℕ) → used_among (map (λ _. IdRef) words) words ≡ words
 all_used [] = refl
 all_used (word ∷ words) = ap (λ (l : List ℕ). word ∷ l) (all_used words)
 
@@ -253,12 +253,12 @@ unfolding entry_of
 values_of opcode = in_rows has_values_entry (λ opcode. refl) ROWS opcode all_have_values
 
 -- the words are a type, an id and ids
-record AreIds (words : List ℕ) (found : Option (List Operand)) : Type 0 where
-  type : ℕ
-  id : ℕ
-  more : List ℕ
-  words_are : words ≡ type ∷ id ∷ more
-  kinds_are : found ≡ Some (IdResultType ∷ IdResult ∷ map (λ _. IdRef) more)
+pub record AreIds (words : List ℕ) (found : Option (List Operand)) : Type 0 where
+  pub type : ℕ
+  pub id : ℕ
+  pub more : List ℕ
+  pub words_are : words ≡ type ∷ id ∷ more
+  pub kinds_are : found ≡ Some (IdResultType ∷ IdResult ∷ map (λ _. IdRef) more)
 
 more_ids : (listed : List (Option Operand)) (words : List ℕ) → list_all is_value listed ≡ true → is_some (kinds_from listed Nothing words) ≡ true → kinds_from listed Nothing words ≡ Some (map (λ _. IdRef) words)
 more_ids [] [] all has = refl
@@ -296,11 +296,11 @@ ids_in (Some Skipped) opcode words operation is all has = cc
 ids_in (Some Float) opcode words operation is all has = cc
 ids_in None opcode words operation is all has = cc
 
-scalar_ids : (inst : Inst) (operation : ScalarClass) → class_of inst.op ≡ Some (class.Scalar operation) → is_some (kinds inst) ≡ true → AreIds inst.words (kinds inst)
+pub scalar_ids : (inst : Inst) (operation : ScalarClass) → class_of inst.op ≡ Some (class.Scalar operation) → is_some (kinds inst) ≡ true → AreIds inst.words (kinds inst)
 unfolding kinds class_of
 scalar_ids inst operation is has = ids_in (entry_of inst.op) inst.op inst.words operation is (values_of inst.op) has
 
-operands_used : (inst : Inst) → uses_operands (class_of inst.op) ≡ true → used_ids inst ≡ used_by (kinds inst) inst.words
+pub operands_used : (inst : Inst) → uses_operands (class_of inst.op) ≡ true → used_ids inst ≡ used_by (kinds inst) inst.words
 unfolding used_ids
 operands_used inst is = by_use _ _ (uses_operands (class_of inst.op)) is
   where
@@ -308,11 +308,11 @@ operands_used inst is = by_use _ _ (uses_operands (class_of inst.op)) is
     by_use x y true is = refl
     by_use x y false is = cc
 
-kinds_same : (inst : Inst) (words : List ℕ) → is_setting_class (class_of inst.op) ≡ false → length words ≡ length inst.words → kinds (record inst { words = words }) ≡ kinds inst
+pub kinds_same : (inst : Inst) (words : List ℕ) → is_setting_class (class_of inst.op) ≡ false → length words ≡ length inst.words → kinds (record inst { words = words }) ≡ kinds inst
 unfolding kinds
 kinds_same inst words isnt long = same_kinds inst.op words inst.words isnt long
 
-named_long : (name : ℕ → ℕ) (words : List ℕ) → length (map name words) ≡ length words
+pub named_long : (name : ℕ → ℕ) (words : List ℕ) → length (map name words) ≡ length words
 named_long name [] = refl
 named_long name (word ∷ words) = let e = named_long name words in omega (arith, e)
 

@@ -175,7 +175,7 @@ constant_class typing None inst is = cc
 constant_class typing (Some class.Constant) inst is = refl
 constant_class typing (Some other) inst is = cc
 
-constant_operands : (typing : Typing) (inst : Inst) → is_plain_constant_class (class_of inst.op) ≡ true → operands_fit typing inst ≡ true
+pub constant_operands : (typing : Typing) (inst : Inst) → is_plain_constant_class (class_of inst.op) ≡ true → operands_fit typing inst ≡ true
 unfolding operands_fit
 constant_operands typing inst is = constant_class typing (class_of inst.op) inst is
 
@@ -270,7 +270,7 @@ no_constants : NoConstants
 unfolding class_of entry_of
 no_constants = record { store = refl; variable = refl }
 
-constant_storage : (typing : Typing) (inside : Bool) (inst : Inst) → is_plain_constant_class (class_of inst.op) ≡ true → is_wrong_storage typing inside inst ≡ false
+pub constant_storage : (typing : Typing) (inside : Bool) (inst : Inst) → is_plain_constant_class (class_of inst.op) ≡ true → is_wrong_storage typing inside inst ≡ false
 unfolding is_wrong_storage
 constant_storage typing inside inst is =
     rw (another (λ o. is_plain_constant_class (class_of o)) op.STORE no_constants.store inst.op is)
