@@ -179,3 +179,13 @@ pub mod PlanRunsLevel
 pub mod PlanRunsStores
 pub mod PlanRunsZeros
 pub mod FoundPlans
+pub mod VisibleUses
+pub mod ChangedBlocks
+pub mod SeenAlive
+pub mod PhiPairsLeft
+pub mod NamesStand
+pub mod NamesSeen
+pub mod TypesNamed
+pub mod UsedLeft
+pub mod ChangedPhis
+pub mod ChangedVisible

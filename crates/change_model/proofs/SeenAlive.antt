@@ -1,10 +1,9 @@
 -- What is visible at a place that isn't dead isn't dead either.
-use Rattle.std.proofs.Common.{◌≡◌, ℕ, suc, ◌+◌, ◌-◌, ◌<◌, ◌≤◌, ◌&&◌, ◌||◌, ◌⊎◌, inl, inr, Bool, true, false, not, nat_le, nat_lt, List, [], ◌∷◌, ◌++◌, drop, refl, ap, sym, ◌∙◌, arith, Option, Some}
+use Rattle.std.proofs.Common.{◌≡◌, ℕ, suc, ◌+◌, ◌-◌, ◌<◌, ◌≤◌, ◌&&◌, ◌||◌, inl, inr, Bool, true, false, not, nat_le, nat_lt, List, [], ◌++◌, drop, refl, ap, sym, ◌∙◌, arith, Option, Some}
 use Rattle.std.specs.Prelude.{slice_get}
 use Rattle.std.proofs.lemmas.Bool.{cases_lt, lt-ltb, ltb-true, le-leb}
 use Rattle.std.proofs.lemmas.List.Folds.{list_all-append}
 use Rattle.basics.proofs.Bools.{first_of_both, second_of_both}
-use Rattle.spirv_model.specs.declared.module.Inst.{Inst}
 use Rattle.spirv_model.specs.declared.module.Words.{Words}
 use Rattle.body_model.specs.declared.block_end.BlockEnd.{BlockEnd}
 use Rattle.body_model.specs.declared.block_end.BlockEnd.TheVariants as way
@@ -21,7 +20,6 @@ use Rattle.typed_model.specs.Jumps.{keeps}
 use Rattle.typed_model.proofs.BlockParts.{block_parts}
 use Rattle.typed_model.proofs.LabelsBefore.{stands_there}
 use Rattle.typed_model.proofs.TypedSteps.{seen}
-use Rattle.change_model.specs.declared.fate.Fate.TheVariants.{Stays}
 use Rattle.change_model.specs.Plans.{Plan, is_dead}
 use Rattle.change_model.specs.PlanRules.{IsPlan}
 use Rattle.change_model.proofs.LeftAlive.{all_dead}
