@@ -209,3 +209,13 @@ pub mod NamedAlike
 pub mod PlanOperands
 pub mod PlanStorage
 pub mod PlanValid
+pub mod VisibleUses
+pub mod ChangedBlocks
+pub mod SeenAlive
+pub mod PhiPairsLeft
+pub mod NamesStand
+pub mod NamesSeen
+pub mod TypesNamed
+pub mod UsedLeft
+pub mod ChangedPhis
+pub mod ChangedVisible
