@@ -55,6 +55,9 @@ early words v id at scalar h defined = elim (cases_lt at (v.derivation.before + 
   | inr past ↦ absurd (clash (gives id (inst_at words.insts at)) (gives_at words.insts id at defined) (h.level at past (defined_within words.insts id at defined)))
 ]
 
+pub constant_early : (words : Words) (v : IsValidList words) (id at : ℕ) (scalar : Scalar) → constant_scalar words.insts id ≡ Some scalar → definition words.insts id ≡ Some at → at < v.derivation.before + 1
+constant_early words v id at scalar is defined = early words v id at scalar (holds_scalar words v no_entries id scalar is) defined
+
 same_value : (found : Option Value) (a b : Value) → found ≡ Some a → found ≡ Some b → a ≡ b
 same_value found a b is also = cc
 
@@ -68,11 +71,11 @@ by_type words v id scalar h (Some at) defined has type of =
     let has = module_typed words no_entries [] (valid_sound words v) n (front_of words v.derivation) id at type defined (visible_by [] at n less refl) of in
     subst (IsOfType (program_of words.insts) type) (same_value (first_values words v no_entries id) has.value (of_scalar scalar) has.is h.value) (has.suits.of_type type of)
 
-taken : {A : Type 0} (b : Bool) (x y : A) → b ≡ true → (if b then x else y) ≡ x
+pub taken : {A : Type 0} (b : Bool) (x y : A) → b ≡ true → (if b then x else y) ≡ x
 taken true x y is = refl
 taken false x y is = cc
 
-left_out : {A : Type 0} (b : Bool) (x y : A) → b ≡ false → (if b then x else y) ≡ y
+pub left_out : {A : Type 0} (b : Bool) (x y : A) → b ≡ false → (if b then x else y) ≡ y
 left_out true x y is = cc
 left_out false x y is = refl
 

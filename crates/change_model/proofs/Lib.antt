@@ -219,3 +219,4 @@ pub mod TypesNamed
 pub mod UsedLeft
 pub mod ChangedPhis
 pub mod ChangedVisible
+pub mod FoundReduced
