@@ -107,7 +107,7 @@ is_defined words id scalar is = by_place (definition words.insts id) is
     by_place None is = cc
     by_place (Some place) is = refl
 
-suits_one : (words : Words) (v : IsValidList words) (id : ℕ) (scalar : Scalar) → constant_scalar words.insts id ≡ Some scalar → Suits (program_of words.insts) (constant_word words.insts) id (of_scalar scalar)
+pub suits_one : (words : Words) (v : IsValidList words) (id : ℕ) (scalar : Scalar) → constant_scalar words.insts id ≡ Some scalar → Suits (program_of words.insts) (constant_word words.insts) id (of_scalar scalar)
 unfolding program_of
 suits_one words v id scalar is = record {
   of_type = by_type words v id scalar (holds_scalar words v no_entries id scalar is) (definition words.insts id) refl (is_defined words id scalar is);
@@ -247,7 +247,7 @@ end_alike program types constant vertex operation type (a ∷ b ∷ d ∷ e ∷ 
 
 -- ---- the operation
 
-fit_by : (insts : List Inst) (inst : Inst) (of : Option Class) → operands_fit (typing_of insts) inst ≡ true → class_of inst.op ≡ of → operands_fit_class (typing_of insts) of inst ≡ true
+pub fit_by : (insts : List Inst) (inst : Inst) (of : Option Class) → operands_fit (typing_of insts) inst ≡ true → class_of inst.op ≡ of → operands_fit_class (typing_of insts) of inst ≡ true
 unfolding operands_fit
 fit_by insts inst of fit is = sym (ap (λ (of : Option Class). operands_fit_class (typing_of insts) of inst) is) ∙ fit
 

@@ -220,3 +220,4 @@ pub mod UsedLeft
 pub mod ChangedPhis
 pub mod ChangedVisible
 pub mod FoundReduced
+pub mod ConstantChoices
