@@ -1,26 +1,25 @@
 -- A scalar that stands for an id is of the id's type: what an operation on constants folds to fits the operation's type.
-use Rattle.std.proofs.Common.{◌≡◌, ℕ, zero, suc, ◌<◌, ◌≤◌, ◌==◌, ◌&&◌, Bool, true, false, if◌then◌else◌, List, [], ◌∷◌, length, map, refl, ap, sym, ◌∙◌, subst, arith, Option, None, Some}
+use Rattle.std.proofs.Common.{◌≡◌, ℕ, zero, suc, ◌<◌, ◌≤◌, ◌&&◌, Bool, true, false, List, [], ◌∷◌, map, refl, ap, sym, ◌∙◌, subst, arith, Option, None, Some}
 use Rattle.std.specs.Option.{option_map, option_and_then}
 use Rattle.spirv_model.specs.declared.module.Inst.{Inst}
 use Rattle.spirv_model.specs.declared.class.Class.{Class}
 use Rattle.spirv_model.specs.declared.class.Class.TheVariants as class
 use Rattle.spirv_model.specs.declared.class.ScalarClass.{ScalarClass}
 use Rattle.spirv_model.specs.declared.class.ScalarClass.TheVariants.{Bitcast, WordFromWord, WordFromWords, TruthFromWords, TruthFromTruth, TruthFromTruths}
-use Rattle.spirv_model.specs.declared.op.TheConstants as op
-use Rattle.spirv_model.specs.Operands.{word_at, words_from, entry_of, class_of}
+use Rattle.spirv_model.specs.Operands.{word_at, words_from, class_of}
 use Rattle.scalar_model.specs.declared.scalar_value.Scalar.{Scalar}
 use Rattle.scalar_model.specs.declared.scalar_value.Scalar.TheVariants.{Bool as TruthOf, Word as WordOf}
 use Rattle.scalar_model.specs.Scalars.{scalar_result}
 use Rattle.body_model.specs.Classes.{is_plain}
 use Rattle.valid_model.specs.declared.meaning.IdFacts.{IdFacts}
 use Rattle.valid_model.specs.declared.meaning.Meaning.{Meaning}
-use Rattle.valid_model.specs.declared.meaning.Meaning.TheVariants.{Shape as OfShape, Constant, Value as OfValue}
+use Rattle.valid_model.specs.declared.meaning.Meaning.TheVariants.{Shape as OfShape}
 use Rattle.valid_model.specs.declared.meaning.Shape.TheVariants.{Bool as OneBool, Int, BoolVector, IntVector}
 use Rattle.valid_model.specs.Definitions.{definition, inst_at}
 use Rattle.valid_model.specs.Knowledge.{is_bool, is_integer}
 use Rattle.valid_model.specs.Meanings.{known_before, meaning}
 use Rattle.check_model.specs.declared.components.Components.{Components}
-use Rattle.check_model.specs.Intervals.{Interval, intervals_of, is_visible}
+use Rattle.check_model.specs.Intervals.{intervals_of}
 use Rattle.check_model.specs.ScalarOperands.{match_in, operand_fits, unary_fits, binary_fits, condition_fits, is_select, select_fits, scalar_operands_fit}
 use Rattle.check_model.specs.Typing.{Typing, type_id, constant_word, type_of, has_type, components_in}
 use Rattle.check_model.specs.Visibility.{is_defined_for}
@@ -28,8 +27,7 @@ use Rattle.stage_model.specs.Value.{Value, Truth, Word, OneTruth, OneWord}
 use Rattle.stage_model.specs.Program.{Program, program_of}
 use Rattle.stage_model.specs.Start.{of_scalar}
 use Rattle.stage_model.specs.Operations.{operation}
-use Rattle.stage_model.specs.Effect.{read_ids}
-use Rattle.typed_model.specs.Types.{HasTypes, typing_in, Suits, AllSuit, HasTypedResult}
+use Rattle.typed_model.specs.Types.{HasTypes, typing_in, Suits, AllSuit}
 use Rattle.typed_model.specs.Values.{IsOfType}
 use Rattle.typed_model.proofs.FunctionRuns.{function_within}
 use Rattle.typed_model.proofs.ModuleValues.{meaning_at}
@@ -41,11 +39,11 @@ use Rattle.typed_model.proofs.TypedSteps.{seen}
 use Rattle.typed_model.proofs.TypeLayouts.{components_layout, has_type_layout, type_has_layout}
 use Rattle.typed_model.proofs.ValidModules.{valid_sound}
 use Rattle.typed_model.proofs.ValidTypes.{valid_types, defined_within}
-use Rattle.unit_model.specs.ConstantScalars.{null_scalar, is_scalar_class}
+use Rattle.unit_model.specs.ConstantScalars.{is_scalar_class}
 use Rattle.change_model.specs.declared.fate.Fate.{Fate}
 use Rattle.change_model.specs.declared.fate.Fate.TheVariants.{Dead, Stays, Goes, Picks, Folds, Nulls, Resolves, Skips, Unused}
 use Rattle.change_model.specs.Folding.{all_constants, function_at}
-use Rattle.change_model.specs.PlanRules.{scalar_as, scalar_of, scalar_left, MayFold}
+use Rattle.change_model.specs.PlanRules.{scalar_as, scalar_of, scalar_left}
 use Rattle.change_model.proofs.ChangedDefinitions.{scalar_listed}
 use Rattle.change_model.proofs.ChangedMeanings.{alone_old, folded_plain}
 use Rattle.change_model.proofs.FoldedConstants.{operation_on}
