@@ -176,7 +176,7 @@ module _ (g : Planned) (intervals : List Interval) (seen : AreSeen g intervals) 
       let op_phi : before.op == op.PHI ≡ true = sym (ap (λ (of : Option Class). is_named of before.op) of) ∙ named before.op in
       let same : inst_at list k ≡ phi_left g.plan.name blocks before = at ∙ sym is in
       let given = subst (λ (i : Inst). Each (IsGiven intervals list) (values_in (incoming i))) same
-          (values_given intervals list k (seen k within) (ap (λ (i : Inst). i.op == op.PHI) same ∙ op_phi)) in
+      (values_given intervals list k (seen k within) (ap (λ (i : Inst). i.op == op.PHI) same ∙ op_phi)) in
       ap (operands_fit (typing_of list)) (sym is) ∙ fit_as (typing_of list) (phi_left g.plan.name blocks before) (Some class.Phi) of
       ∙ phi_fit (typing_of list) (typing_of insts) g.plan.name (are_alike g) (IsGiven intervals list) given_alike blocks before given (fits_old g old (Some class.Phi) most of)
 

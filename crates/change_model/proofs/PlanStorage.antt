@@ -149,7 +149,7 @@ module _ (g : Planned) (intervals : List Interval) (seen : (k : ℕ) → k < len
       let named : renamed g.plan.name before ≡ inst = sym (kept_plain g.plan insts old before isnt) ∙ is in
       let used = used_there g intervals seen k within (renamed g.plan.name before) (at ∙ sym named) isnt in
       let S : Inst → Type 0 = λ i. is_some (kinds i) ≡ true → Each (IsGiven intervals list) (used_ids (renamed g.plan.name i))
-          → points_to_read_only (type_of (typing_of list) (word_at 0 (renamed g.plan.name i))) ≡ points_to_read_only (type_of (typing_of insts) (word_at 0 i)) in
+      → points_to_read_only (type_of (typing_of list) (word_at 0 (renamed g.plan.name i))) ≡ points_to_read_only (type_of (typing_of insts) (word_at 0 i)) in
       storage_of_store (typing_of list) (is_in_function list k) inst store
       ∙ ap (λ (i : Inst). points_to_read_only (type_of (typing_of list) (word_at 0 i))) (sym named)
       ∙ at_op S before op.STORE op_store (store_words (typing_of list) (typing_of insts) g.plan.name (are_alike g) (IsGiven intervals list) (given_alike g intervals seen k within) before.words)
