@@ -1,6 +1,7 @@
 -- A scalar that stands for an id is of the id's type: what an operation on constants folds to fits the operation's type.
 use Rattle.std.proofs.Common.{◌≡◌, ℕ, zero, suc, ◌<◌, ◌≤◌, ◌&&◌, Bool, true, false, List, [], ◌∷◌, map, refl, ap, sym, ◌∙◌, subst, arith, Option, None, Some}
 use Rattle.std.specs.Option.{option_map, option_and_then}
+use Rattle.basics.proofs.Bools.{first_of_both, second_of_both}
 use Rattle.spirv_model.specs.declared.module.Inst.{Inst}
 use Rattle.spirv_model.specs.declared.class.Class.{Class}
 use Rattle.spirv_model.specs.declared.class.Class.TheVariants as class
@@ -101,14 +102,6 @@ none_matches : (rt ot : Bool) (found operand : Option Components) → match_in r
 none_matches rt ot None operand fits = cc
 none_matches rt ot (Some of) operand fits = (of, refl)
 
-first : (a b : Bool) → (a && b) ≡ true → a ≡ true
-first true b is = refl
-first false b is = cc
-
-second : (a b : Bool) → (a && b) ≡ true → b ≡ true
-second true b is = is
-second false b is = cc
-
 one_composed : (of : ScalarClass) (type a : Meaning) → unary_fits of type a ≡ true → Composed (components_in type)
 one_composed Bitcast type a fits = none_matches false false (components_in type) (components_in a) fits
 one_composed WordFromWord type a fits = none_matches false false (components_in type) (components_in a) fits
@@ -116,9 +109,9 @@ one_composed TruthFromTruth type a fits = none_matches true true (components_in 
 one_composed other type a fits = cc
 
 two_composed : (of : ScalarClass) (type a b : Meaning) → binary_fits of type a b ≡ true → Composed (components_in type)
-two_composed WordFromWords type a b fits = none_matches false false (components_in type) (components_in a) (first (operand_fits false false type a) (operand_fits false false type b) fits)
-two_composed TruthFromWords type a b fits = none_matches true false (components_in type) (components_in a) (first (operand_fits true false type a) (operand_fits true false type b) fits)
-two_composed TruthFromTruths type a b fits = none_matches true true (components_in type) (components_in a) (first (operand_fits true true type a) (operand_fits true true type b) fits)
+two_composed WordFromWords type a b fits = none_matches false false (components_in type) (components_in a) (first_of_both (operand_fits false false type a) (operand_fits false false type b) fits)
+two_composed TruthFromWords type a b fits = none_matches true false (components_in type) (components_in a) (first_of_both (operand_fits true false type a) (operand_fits true false type b) fits)
+two_composed TruthFromTruths type a b fits = none_matches true true (components_in type) (components_in a) (first_of_both (operand_fits true true type a) (operand_fits true true type b) fits)
 two_composed other type a b fits = cc
 
 condition_composed : (condition : Meaning) (found : Option Components) → condition_fits condition found ≡ true → Composed found
@@ -132,8 +125,8 @@ composed typing of type (a ∷ []) fits = one_composed of (typing.meaning type) 
 composed typing of type (a ∷ b ∷ []) fits = two_composed of (typing.meaning type) (type_of typing a) (type_of typing b) fits
 composed typing of type (condition ∷ a ∷ b ∷ []) fits =
     condition_composed (type_of typing condition) (components_in (typing.meaning type))
-    (first (condition_fits (type_of typing condition) (components_in (typing.meaning type))) (has_type typing type a && has_type typing type b)
-    (three (condition_fits (type_of typing condition) (components_in (typing.meaning type))) (has_type typing type a) (has_type typing type b) (second (is_select of) (select_fits typing type condition a b) fits)))
+    (first_of_both (condition_fits (type_of typing condition) (components_in (typing.meaning type))) (has_type typing type a && has_type typing type b)
+    (three (condition_fits (type_of typing condition) (components_in (typing.meaning type))) (has_type typing type a) (has_type typing type b) (second_of_both (is_select of) (select_fits typing type condition a b) fits)))
   where
     three : (a b c : Bool) → (a && b && c) ≡ true → (a && (b && c)) ≡ true
     three true b c is = is
