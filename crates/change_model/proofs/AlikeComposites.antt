@@ -1,9 +1,9 @@
 -- Instructions on composites whose operands are alike fit in the one module as they do in the other.
-use Rattle.std.proofs.Common.{◌≡◌, ℕ, suc, ◌+◌, ◌==◌, ◌&&◌, ◌||◌, Bool, true, false, nat_lt, nat_le, List, [], ◌∷◌, length, map, refl, ap, sym, ◌∙◌, Option, None, Some}
+use Rattle.std.proofs.Common.{◌≡◌, ℕ, ◌+◌, ◌==◌, ◌&&◌, Bool, nat_le, List, [], ◌∷◌, length, map, refl, ap, ◌∙◌, Option, None, Some}
 use Rattle.std.specs.List.{list_all, fold, sum_by, zip}
 use Rattle.std.specs.Option.{option_map, option_and_then}
 use Rattle.valid_model.specs.declared.meaning.Shape.{Shape}
-use Rattle.valid_model.specs.declared.meaning.Shape.TheVariants.{Void, Bool as OneBool, Int, BoolVector, IntVector, Array, Struct, Pointer, Function}
+use Rattle.valid_model.specs.declared.meaning.Shape.TheVariants.{BoolVector, IntVector, Array, Struct}
 use Rattle.valid_model.specs.declared.meaning.Meaning.{Meaning}
 use Rattle.valid_model.specs.declared.meaning.Meaning.TheVariants.{Shape as OfShape}
 use Rattle.valid_model.specs.Knowledge.{is_bool}

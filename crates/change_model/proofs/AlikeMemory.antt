@@ -1,10 +1,10 @@
 -- Loads, stores and chains whose operands are alike fit in the one module if they fit in the other.
-use Rattle.std.proofs.Common.{◌≡◌, ℕ, ◌==◌, ◌&&◌, Bool, true, false, if◌then◌else◌, List, [], ◌∷◌, map, refl, ap, sym, ◌∙◌, Option, None, Some}
+use Rattle.std.proofs.Common.{◌≡◌, ℕ, ◌==◌, ◌&&◌, Bool, true, false, if◌then◌else◌, List, [], ◌∷◌, map, refl, ap, ◌∙◌, Option, None, Some}
 use Rattle.std.specs.Option.{option_map, option_and_then}
 use Rattle.valid_model.specs.declared.meaning.Shape.{Shape}
 use Rattle.valid_model.specs.declared.meaning.Shape.TheVariants.{Void, Bool as OneBool, Int, BoolVector, IntVector, Array, Struct, Pointer, Function}
 use Rattle.valid_model.specs.declared.meaning.Meaning.{Meaning}
-use Rattle.valid_model.specs.declared.meaning.Meaning.TheVariants.{Absent, Shape as OfShape, Constant, Variable, Value as OfValue, Label, Other}
+use Rattle.valid_model.specs.declared.meaning.Meaning.TheVariants.{Shape as OfShape, Variable}
 use Rattle.valid_model.specs.Knowledge.{is_integer}
 use Rattle.valid_model.specs.ModuleFacts.{is_word}
 use Rattle.valid_model.specs.Shapes.{pointee_id}
@@ -13,7 +13,7 @@ use Rattle.check_model.specs.declared.components.Part.{Part}
 use Rattle.check_model.specs.declared.components.Part.TheVariants as part
 use Rattle.check_model.specs.CompositeOperands.{is_scalar_of, is_of_type}
 use Rattle.check_model.specs.MemoryOperands.{load_fits, is_object_of, store_fits, indexed, member_at, chain_part, chain_step, chain_along, is_pointer_to, chain_fits}
-use Rattle.check_model.specs.Typing.{Typing, type_of, has_type, components_in}
+use Rattle.check_model.specs.Typing.{Typing, type_of, components_in}
 use Rattle.typed_model.proofs.ReadTypes.{Each}
 use Rattle.change_model.proofs.AlikeTypes.{AreAlike, IsAlike, ByShape, same_shapes, integer_by, components_by, pointee_by, says_alike, type_says, has_alike}
 

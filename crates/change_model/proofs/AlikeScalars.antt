@@ -1,5 +1,5 @@
 -- Scalar operations, phis and terminators whose operands are alike fit in the one module as they do in the other.
-use Rattle.std.proofs.Common.{◌≡◌, ℕ, ◌==◌, ◌&&◌, ◌||◌, Bool, true, false, not, List, [], ◌∷◌, map, refl, ap, sym, ◌∙◌, Option, None, Some}
+use Rattle.std.proofs.Common.{◌≡◌, ℕ, ◌&&◌, ◌||◌, Bool, true, false, not, List, [], ◌∷◌, map, refl, ap, ◌∙◌, Option, None, Some}
 use Rattle.spirv_model.specs.declared.class.ScalarClass.{ScalarClass}
 use Rattle.spirv_model.specs.declared.class.ScalarClass.TheVariants.{Bitcast, WordFromWord, WordFromWords, TruthFromWords, TruthFromTruth, TruthFromTruths}
 use Rattle.valid_model.specs.declared.meaning.Meaning.{Meaning}
@@ -8,9 +8,8 @@ use Rattle.check_model.specs.declared.components.Components.{Components}
 use Rattle.check_model.specs.OperandTypes.{is_pointer, incoming_fits}
 use Rattle.check_model.specs.ScalarOperands.{match_in, operand_fits, unary_fits, both_fit, binary_fits, are_so_many, condition_fits, is_select, select_fits, scalar_operands_fit}
 use Rattle.check_model.specs.Typing.{Typing, type_of, has_type, components_in}
-use Rattle.check_model.specs.Visibility.{Incoming}
 use Rattle.typed_model.proofs.ReadTypes.{Each}
-use Rattle.change_model.proofs.AlikeTypes.{AreAlike, IsAlike, ByShape, as_shape, same_shapes, bool_by, components_by, pointer_by, says_alike, type_says, has_alike, types_alike}
+use Rattle.change_model.proofs.AlikeTypes.{AreAlike, IsAlike, ByShape, as_shape, same_shapes, bool_by, components_by, pointer_by, type_says, has_alike, types_alike}
 use Rattle.change_model.proofs.ChangedShapes.{shape_in}
 
 -- ---- what an operation asks of types is told by their shapes

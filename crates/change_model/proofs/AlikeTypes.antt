@@ -1,13 +1,11 @@
 -- Two modules in which types have the same shapes, and ids of which one is of the type of the other: what the rules of operands say of both.
-use Rattle.std.proofs.Common.{◌≡◌, ℕ, ◌==◌, Bool, true, false, refl, ap, sym, ◌∙◌, Option, None, Some}
+use Rattle.std.proofs.Common.{◌≡◌, ℕ, refl, ap, sym, ◌∙◌, Option, None, Some}
 use Rattle.valid_model.specs.declared.meaning.Shape.{Shape}
 use Rattle.valid_model.specs.declared.meaning.Meaning.{Meaning}
-use Rattle.valid_model.specs.declared.meaning.Meaning.TheVariants.{Absent, Shape as OfShape, Constant, Variable, Value as OfValue, Label, Other}
+use Rattle.valid_model.specs.declared.meaning.Meaning.TheVariants.{Absent, Shape as OfShape, Variable}
 use Rattle.valid_model.specs.Knowledge.{is_bool, is_integer, is_data}
 use Rattle.valid_model.specs.ModuleFacts.{is_word}
 use Rattle.valid_model.specs.Shapes.{pointee_id}
-use Rattle.check_model.specs.declared.components.Components.{Components}
-use Rattle.check_model.specs.declared.components.Part.{Part}
 use Rattle.check_model.specs.CompositeOperands.{part_at, is_truth_vector}
 use Rattle.check_model.specs.OperandTypes.{is_pointer}
 use Rattle.check_model.specs.Storage.{points_to_read_only}

@@ -1,12 +1,12 @@
 -- A plain instruction with other names for its operands, which are alike in both modules, fits in the one as in the other.
-use Rattle.std.proofs.Common.{◌≡◌, ℕ, ◌==◌, ◌||◌, Bool, true, false, if◌then◌else◌, List, [], ◌∷◌, length, drop, map, slice_index, refl, ap, sym, ◌∙◌, subst, arith, Option, None, Some, is_some}
+use Rattle.std.proofs.Common.{◌≡◌, ℕ, ◌==◌, Bool, true, false, if◌then◌else◌, List, [], ◌∷◌, length, drop, map, slice_index, refl, ap, sym, ◌∙◌, subst, arith, Option, Some, is_some}
 use Rattle.spirv_model.specs.declared.module.Inst.{Inst}
 use Rattle.spirv_model.specs.declared.op.TheConstants as op
 use Rattle.spirv_model.specs.declared.class.Class.{Class}
 use Rattle.spirv_model.specs.declared.class.Class.TheVariants as class
 use Rattle.spirv_model.specs.declared.class.ScalarClass.{ScalarClass}
 use Rattle.spirv_model.specs.declared.table.Operand.{Operand}
-use Rattle.spirv_model.specs.declared.table.Operand.TheVariants.{IdResultType, IdResult, IdRef, LiteralInteger}
+use Rattle.spirv_model.specs.declared.table.Operand.TheVariants.{IdResultType, IdResult, IdRef}
 use Rattle.spirv_model.specs.Operands.{word_at, words_from, entry_of, class_of, kinds}
 use Rattle.body_model.specs.Classes.{is_plain_class}
 use Rattle.valid_model.specs.Knowledge.{is_data}

@@ -1,5 +1,5 @@
 -- In the list that a plan makes an id's other name is of the type of the id in the old list, and the same variable or number.
-use Rattle.std.proofs.Common.{◌≡◌, ℕ, ◌<◌, ◌≤◌, ◌==◌, ◌⊎◌, inl, inr, Bool, true, false, if◌then◌else◌, List, refl, ap, sym, ◌∙◌, Option, None, Some}
+use Rattle.std.proofs.Common.{◌≡◌, ℕ, ◌==◌, ◌⊎◌, inl, inr, true, List, refl, ap, sym, ◌∙◌, Option, None, Some}
 use Rattle.std.specs.Option.{option_and_then}
 use Rattle.std.proofs.lemmas.Bool.{cases_lt}
 use Rattle.spirv_model.specs.declared.module.Inst.{Inst}
@@ -12,7 +12,7 @@ use Rattle.valid_model.specs.Definitions.{definition, inst_at}
 use Rattle.valid_model.specs.Meanings.{is_constant, meaning}
 use Rattle.valid_model.specs.ModuleFacts.{is_word, is_vertex, facts_of}
 use Rattle.check_model.specs.Intervals.{Interval}
-use Rattle.check_model.specs.Typing.{Typing, typing_of, type_id, constant_in, constant_word}
+use Rattle.check_model.specs.Typing.{typing_of, type_id, constant_in, constant_word}
 use Rattle.check_model.specs.Visibility.{is_defined_for}
 use Rattle.typed_model.proofs.BlockParts.{clash}
 use Rattle.typed_model.proofs.ModuleSteps.{number_at, number_of}
@@ -26,7 +26,7 @@ use Rattle.change_model.proofs.ChangedDefinitions.{level_defined}
 use Rattle.change_model.proofs.ChangedMeanings.{level_inst, alone_old, still_means}
 use Rattle.change_model.proofs.ChangedNames.{IsPhiThatGoes, phi_that_goes}
 use Rattle.change_model.proofs.ChangedShapes.{shape_in, shapes_changed, facts_changed}
-use Rattle.change_model.proofs.NamedTypes.{phi_means, typing_means, NamedAt, named_type}
+use Rattle.change_model.proofs.NamedTypes.{phi_means, typing_means, named_type}
 use Rattle.change_model.proofs.Planned.{Planned}
 use Rattle.change_model.proofs.Settlings.{op_is}
 

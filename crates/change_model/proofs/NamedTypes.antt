@@ -1,5 +1,5 @@
 -- An id's other name is defined no later than the id, and is of the same type.
-use Rattle.std.proofs.Common.{◌≡◌, ℕ, zero, suc, ◌<◌, ◌≤◌, ◌==◌, ◌&&◌, ◌⊎◌, inl, inr, Bool, true, false, not, if◌then◌else◌, List, [], ◌∷◌, refl, ap, sym, ◌∙◌, subst, arith, Option, None, Some}
+use Rattle.std.proofs.Common.{◌≡◌, ℕ, zero, suc, ◌<◌, ◌≤◌, ◌⊎◌, inl, inr, Bool, true, false, not, if◌then◌else◌, List, [], ◌∷◌, refl, ap, sym, ◌∙◌, arith, Option, Some}
 use Rattle.std.specs.Prelude.{filter}
 use Rattle.std.specs.List.{list_all}
 use Rattle.basics.proofs.Bools.{first_of_both, second_of_both}
@@ -25,7 +25,7 @@ use Rattle.change_model.specs.Plans.{predecessors_left, block_at}
 use Rattle.change_model.specs.PlanRules.{IsResolvedId}
 use Rattle.change_model.proofs.ChangedMeanings.{alone_old}
 use Rattle.change_model.proofs.ChangedNames.{IsPhiThatGoes, phi_that_goes}
-use Rattle.change_model.proofs.FunctionKnown.{function_facts, function_known, phi_facts}
+use Rattle.change_model.proofs.FunctionKnown.{function_known, phi_facts}
 use Rattle.change_model.proofs.Planned.{Planned}
 
 -- ---- what a phi means, and the types of its values

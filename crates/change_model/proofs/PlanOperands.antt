@@ -1,18 +1,18 @@
 -- Each instruction of the list that a plan makes has operands of the types that it takes, where all that it uses is visible.
-use Rattle.std.proofs.Common.{◌≡◌, ℕ, ◌+◌, ◌<◌, ◌≤◌, ◌==◌, ◌&&◌, inl, inr, Bool, true, false, not, if◌then◌else◌, List, [], ◌∷◌, length, map, refl, ap, sym, ◌∙◌, subst, arith, Option, None, Some, is_some}
-use Rattle.std.specs.List.{find, list_all}
+use Rattle.std.proofs.Common.{◌≡◌, ℕ, ◌<◌, ◌==◌, ◌&&◌, inl, inr, Bool, true, false, not, if◌then◌else◌, List, [], ◌∷◌, length, map, refl, ap, sym, ◌∙◌, subst, arith, Option, None, Some}
+use Rattle.std.specs.List.{find}
 use Rattle.std.specs.Option.{option_map}
 use Rattle.std.proofs.lemmas.Bool.{cases_lt}
 use Rattle.spirv_model.specs.declared.module.Inst.{Inst}
 use Rattle.spirv_model.specs.declared.class.Class.{Class}
 use Rattle.spirv_model.specs.declared.class.Class.TheVariants as class
 use Rattle.spirv_model.specs.declared.op.TheConstants as op
-use Rattle.spirv_model.specs.Operands.{word_at, entry_of, class_of, kinds}
+use Rattle.spirv_model.specs.Operands.{word_at, entry_of, class_of}
 use Rattle.body_model.specs.Classes.{is_module_level_class, is_plain_class}
 use Rattle.valid_model.specs.Definitions.{definition, inst_at}
 use Rattle.valid_model.specs.Knowledge.{is_data}
 use Rattle.check_model.specs.Intervals.{Interval}
-use Rattle.check_model.specs.OperandTypes.{incoming_fits, operands_fit_class, operands_fit}
+use Rattle.check_model.specs.OperandTypes.{operands_fit_class, operands_fit}
 use Rattle.check_model.specs.Typing.{Typing, typing_of}
 use Rattle.check_model.specs.Validity.{has_bad_operands}
 use Rattle.check_model.specs.Visibility.{Use, Incoming, incoming, used_ids, names_predecessors, incoming_use, phi_uses, use_at, uses_at, is_defined_for, is_visible_use, not_visible}
@@ -176,7 +176,7 @@ module _ (g : Planned) (intervals : List Interval) (seen : AreSeen g intervals) 
       let op_phi : before.op == op.PHI ≡ true = sym (ap (λ (of : Option Class). is_named of before.op) of) ∙ named before.op in
       let same : inst_at list k ≡ phi_left g.plan.name blocks before = at ∙ sym is in
       let given = subst (λ (i : Inst). Each (IsGiven intervals list) (values_in (incoming i))) same
-          (values_given intervals list k (seen k within) (ap (λ (i : Inst). i.op == op.PHI) same ∙ op_phi)) in
+      (values_given intervals list k (seen k within) (ap (λ (i : Inst). i.op == op.PHI) same ∙ op_phi)) in
       ap (operands_fit (typing_of list)) (sym is) ∙ fit_as (typing_of list) (phi_left g.plan.name blocks before) (Some class.Phi) of
       ∙ phi_fit (typing_of list) (typing_of insts) g.plan.name (are_alike g) (IsGiven intervals list) given_alike blocks before given (fits_old g old (Some class.Phi) most of)
 

@@ -1,12 +1,9 @@
 -- Ids, types, constants and decorations are sound in the list that a plan makes.
-use Rattle.std.proofs.Common.{◌≡◌, ℕ, zero, suc, ◌<◌, ◌≤◌, ◌==◌, ◌&&◌, inl, inr, Bool, true, false, not, if◌then◌else◌, List, [], ◌∷◌, length, refl, ap, sym, ◌∙◌, subst, arith, Option, None, Some}
-use Rattle.std.specs.Option.{option_or}
+use Rattle.std.proofs.Common.{◌≡◌, ℕ, ◌<◌, ◌≤◌, ◌==◌, ◌&&◌, inl, inr, Bool, true, false, not, List, [], ◌∷◌, length, refl, ap, sym, ◌∙◌, subst, arith, Option, None, Some}
 use Rattle.std.proofs.lemmas.Bool.{cases_lt}
 use Rattle.std.proofs.lemmas.Bool.Decides.{nat_tests}
 use Rattle.std.proofs.lemmas.List.{take_all}
 use Rattle.spirv_model.specs.declared.module.Inst.{Inst}
-use Rattle.spirv_model.specs.declared.module.Words.{Words}
-use Rattle.spirv_model.specs.declared.class.Class.{Class}
 use Rattle.spirv_model.specs.declared.class.Class.TheVariants as class
 use Rattle.spirv_model.specs.declared.op.TheConstants as op
 use Rattle.spirv_model.specs.Operands.{word_at, entry_of, class_of}
@@ -19,7 +16,6 @@ use Rattle.valid_model.specs.Definitions.{inst_at}
 use Rattle.valid_model.specs.FirstFault.{bad_constant, type_fault_at, type_fault}
 use Rattle.valid_model.specs.Knowledge.{Knowledge, is_data, meaning_in}
 use Rattle.valid_model.specs.Meanings.{is_constant, known_by, known_before, meaning}
-use Rattle.valid_model.specs.ModuleFacts.{is_word}
 use Rattle.valid_model.specs.Shapes.{pointee_id}
 use Rattle.check_model.specs.MemoryOperands.{load_fits, memory_operands_fit}
 use Rattle.check_model.specs.Typing.{Typing, constant_word, type_of}
@@ -27,13 +23,11 @@ use Rattle.stage_model.specs.Program.{program_of}
 use Rattle.stage_model.specs.Start.{of_scalar}
 use Rattle.typed_model.specs.Types.{typing_in}
 use Rattle.typed_model.proofs.EffectsRun.{instruction}
-use Rattle.typed_model.proofs.FunctionRuns.{function_within}
 use Rattle.typed_model.proofs.MemoryValues.{pointer_operand}
 use Rattle.typed_model.proofs.PlainRuns.{at_op}
 use Rattle.typed_model.proofs.TypeLayouts.{word_is}
 use Rattle.typed_model.proofs.ValidModules.{valid_sound}
 use Rattle.typed_model.proofs.ValidTypes.{valid_types}
-use Rattle.change_model.specs.declared.fate.Fate.TheVariants.{Nulls}
 use Rattle.change_model.specs.Constants.{scalar_constant}
 use Rattle.change_model.specs.Folding.{function_at}
 use Rattle.change_model.specs.Plans.{changed}

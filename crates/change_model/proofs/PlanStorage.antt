@@ -1,8 +1,7 @@
 -- Variables stand where those of their class do in the list that a plan makes, and nothing is stored where it may only be read.
-use Rattle.std.proofs.Common.{◌≡◌, ℕ, zero, suc, ◌+◌, ◌<◌, ◌≤◌, ◌==◌, ◌||◌, inl, inr, Bool, true, false, not, if◌then◌else◌, List, [], ◌∷◌, length, take, refl, ap, sym, ◌∙◌, subst, arith, Option, None, Some, is_some}
+use Rattle.std.proofs.Common.{◌≡◌, ℕ, ◌<◌, ◌≤◌, ◌==◌, inl, inr, Bool, true, false, List, [], ◌∷◌, length, take, refl, ap, sym, ◌∙◌, arith, None, is_some}
 use Rattle.std.specs.List.{list_any}
 use Rattle.std.proofs.lemmas.Bool.{cases_lt}
-use Rattle.basics.specs.Word.{are_equal}
 use Rattle.spirv_model.specs.declared.module.Inst.{Inst}
 use Rattle.spirv_model.specs.declared.op.TheConstants as op
 use Rattle.spirv_model.specs.declared.storage_class.TheConstants as storage_class
@@ -150,7 +149,7 @@ module _ (g : Planned) (intervals : List Interval) (seen : (k : ℕ) → k < len
       let named : renamed g.plan.name before ≡ inst = sym (kept_plain g.plan insts old before isnt) ∙ is in
       let used = used_there g intervals seen k within (renamed g.plan.name before) (at ∙ sym named) isnt in
       let S : Inst → Type 0 = λ i. is_some (kinds i) ≡ true → Each (IsGiven intervals list) (used_ids (renamed g.plan.name i))
-          → points_to_read_only (type_of (typing_of list) (word_at 0 (renamed g.plan.name i))) ≡ points_to_read_only (type_of (typing_of insts) (word_at 0 i)) in
+      → points_to_read_only (type_of (typing_of list) (word_at 0 (renamed g.plan.name i))) ≡ points_to_read_only (type_of (typing_of insts) (word_at 0 i)) in
       storage_of_store (typing_of list) (is_in_function list k) inst store
       ∙ ap (λ (i : Inst). points_to_read_only (type_of (typing_of list) (word_at 0 i))) (sym named)
       ∙ at_op S before op.STORE op_store (store_words (typing_of list) (typing_of insts) g.plan.name (are_alike g) (IsGiven intervals list) (given_alike g intervals seen k within) before.words)

@@ -1,5 +1,5 @@
 -- The list that a plan makes of a valid module's is a valid module, where all that it uses is visible.
-use Rattle.std.proofs.Common.{◌≡◌, ℕ, ◌<◌, length, ap, ◌∙◌, Option, None}
+use Rattle.std.proofs.Common.{◌≡◌, ℕ, ◌<◌, length, ap, ◌∙◌, None}
 use Rattle.std.specs.Option.{option_map}
 use Rattle.body_model.specs.Grammar.{Derives}
 use Rattle.check_model.specs.declared.fault.CheckFault.TheVariants as fault

@@ -1,26 +1,26 @@
 -- A scalar that stands for an id is of the id's type: what an operation on constants folds to fits the operation's type.
-use Rattle.std.proofs.Common.{◌≡◌, ℕ, zero, suc, ◌<◌, ◌≤◌, ◌==◌, ◌&&◌, Bool, true, false, if◌then◌else◌, List, [], ◌∷◌, length, map, refl, ap, sym, ◌∙◌, subst, arith, Option, None, Some}
+use Rattle.std.proofs.Common.{◌≡◌, ℕ, zero, suc, ◌<◌, ◌≤◌, ◌&&◌, Bool, true, false, List, [], ◌∷◌, map, refl, ap, sym, ◌∙◌, subst, arith, Option, None, Some}
 use Rattle.std.specs.Option.{option_map, option_and_then}
+use Rattle.basics.proofs.Bools.{first_of_both, second_of_both}
 use Rattle.spirv_model.specs.declared.module.Inst.{Inst}
 use Rattle.spirv_model.specs.declared.class.Class.{Class}
 use Rattle.spirv_model.specs.declared.class.Class.TheVariants as class
 use Rattle.spirv_model.specs.declared.class.ScalarClass.{ScalarClass}
 use Rattle.spirv_model.specs.declared.class.ScalarClass.TheVariants.{Bitcast, WordFromWord, WordFromWords, TruthFromWords, TruthFromTruth, TruthFromTruths}
-use Rattle.spirv_model.specs.declared.op.TheConstants as op
-use Rattle.spirv_model.specs.Operands.{word_at, words_from, entry_of, class_of}
+use Rattle.spirv_model.specs.Operands.{word_at, words_from, class_of}
 use Rattle.scalar_model.specs.declared.scalar_value.Scalar.{Scalar}
 use Rattle.scalar_model.specs.declared.scalar_value.Scalar.TheVariants.{Bool as TruthOf, Word as WordOf}
 use Rattle.scalar_model.specs.Scalars.{scalar_result}
 use Rattle.body_model.specs.Classes.{is_plain}
 use Rattle.valid_model.specs.declared.meaning.IdFacts.{IdFacts}
 use Rattle.valid_model.specs.declared.meaning.Meaning.{Meaning}
-use Rattle.valid_model.specs.declared.meaning.Meaning.TheVariants.{Shape as OfShape, Constant, Value as OfValue}
+use Rattle.valid_model.specs.declared.meaning.Meaning.TheVariants.{Shape as OfShape}
 use Rattle.valid_model.specs.declared.meaning.Shape.TheVariants.{Bool as OneBool, Int, BoolVector, IntVector}
 use Rattle.valid_model.specs.Definitions.{definition, inst_at}
 use Rattle.valid_model.specs.Knowledge.{is_bool, is_integer}
 use Rattle.valid_model.specs.Meanings.{known_before, meaning}
 use Rattle.check_model.specs.declared.components.Components.{Components}
-use Rattle.check_model.specs.Intervals.{Interval, intervals_of, is_visible}
+use Rattle.check_model.specs.Intervals.{intervals_of}
 use Rattle.check_model.specs.ScalarOperands.{match_in, operand_fits, unary_fits, binary_fits, condition_fits, is_select, select_fits, scalar_operands_fit}
 use Rattle.check_model.specs.Typing.{Typing, type_id, constant_word, type_of, has_type, components_in}
 use Rattle.check_model.specs.Visibility.{is_defined_for}
@@ -28,8 +28,7 @@ use Rattle.stage_model.specs.Value.{Value, Truth, Word, OneTruth, OneWord}
 use Rattle.stage_model.specs.Program.{Program, program_of}
 use Rattle.stage_model.specs.Start.{of_scalar}
 use Rattle.stage_model.specs.Operations.{operation}
-use Rattle.stage_model.specs.Effect.{read_ids}
-use Rattle.typed_model.specs.Types.{HasTypes, typing_in, Suits, AllSuit, HasTypedResult}
+use Rattle.typed_model.specs.Types.{HasTypes, typing_in, Suits, AllSuit}
 use Rattle.typed_model.specs.Values.{IsOfType}
 use Rattle.typed_model.proofs.FunctionRuns.{function_within}
 use Rattle.typed_model.proofs.ModuleValues.{meaning_at}
@@ -41,11 +40,11 @@ use Rattle.typed_model.proofs.TypedSteps.{seen}
 use Rattle.typed_model.proofs.TypeLayouts.{components_layout, has_type_layout, type_has_layout}
 use Rattle.typed_model.proofs.ValidModules.{valid_sound}
 use Rattle.typed_model.proofs.ValidTypes.{valid_types, defined_within}
-use Rattle.unit_model.specs.ConstantScalars.{null_scalar, is_scalar_class}
+use Rattle.unit_model.specs.ConstantScalars.{is_scalar_class}
 use Rattle.change_model.specs.declared.fate.Fate.{Fate}
 use Rattle.change_model.specs.declared.fate.Fate.TheVariants.{Dead, Stays, Goes, Picks, Folds, Nulls, Resolves, Skips, Unused}
 use Rattle.change_model.specs.Folding.{all_constants, function_at}
-use Rattle.change_model.specs.PlanRules.{scalar_as, scalar_of, scalar_left, MayFold}
+use Rattle.change_model.specs.PlanRules.{scalar_as, scalar_of, scalar_left}
 use Rattle.change_model.proofs.ChangedDefinitions.{scalar_listed}
 use Rattle.change_model.proofs.ChangedMeanings.{alone_old, folded_plain}
 use Rattle.change_model.proofs.FoldedConstants.{operation_on}
@@ -103,14 +102,6 @@ none_matches : (rt ot : Bool) (found operand : Option Components) → match_in r
 none_matches rt ot None operand fits = cc
 none_matches rt ot (Some of) operand fits = (of, refl)
 
-first : (a b : Bool) → (a && b) ≡ true → a ≡ true
-first true b is = refl
-first false b is = cc
-
-second : (a b : Bool) → (a && b) ≡ true → b ≡ true
-second true b is = is
-second false b is = cc
-
 one_composed : (of : ScalarClass) (type a : Meaning) → unary_fits of type a ≡ true → Composed (components_in type)
 one_composed Bitcast type a fits = none_matches false false (components_in type) (components_in a) fits
 one_composed WordFromWord type a fits = none_matches false false (components_in type) (components_in a) fits
@@ -118,9 +109,9 @@ one_composed TruthFromTruth type a fits = none_matches true true (components_in 
 one_composed other type a fits = cc
 
 two_composed : (of : ScalarClass) (type a b : Meaning) → binary_fits of type a b ≡ true → Composed (components_in type)
-two_composed WordFromWords type a b fits = none_matches false false (components_in type) (components_in a) (first (operand_fits false false type a) (operand_fits false false type b) fits)
-two_composed TruthFromWords type a b fits = none_matches true false (components_in type) (components_in a) (first (operand_fits true false type a) (operand_fits true false type b) fits)
-two_composed TruthFromTruths type a b fits = none_matches true true (components_in type) (components_in a) (first (operand_fits true true type a) (operand_fits true true type b) fits)
+two_composed WordFromWords type a b fits = none_matches false false (components_in type) (components_in a) (first_of_both (operand_fits false false type a) (operand_fits false false type b) fits)
+two_composed TruthFromWords type a b fits = none_matches true false (components_in type) (components_in a) (first_of_both (operand_fits true false type a) (operand_fits true false type b) fits)
+two_composed TruthFromTruths type a b fits = none_matches true true (components_in type) (components_in a) (first_of_both (operand_fits true true type a) (operand_fits true true type b) fits)
 two_composed other type a b fits = cc
 
 condition_composed : (condition : Meaning) (found : Option Components) → condition_fits condition found ≡ true → Composed found
@@ -134,8 +125,8 @@ composed typing of type (a ∷ []) fits = one_composed of (typing.meaning type) 
 composed typing of type (a ∷ b ∷ []) fits = two_composed of (typing.meaning type) (type_of typing a) (type_of typing b) fits
 composed typing of type (condition ∷ a ∷ b ∷ []) fits =
     condition_composed (type_of typing condition) (components_in (typing.meaning type))
-    (first (condition_fits (type_of typing condition) (components_in (typing.meaning type))) (has_type typing type a && has_type typing type b)
-    (three (condition_fits (type_of typing condition) (components_in (typing.meaning type))) (has_type typing type a) (has_type typing type b) (second (is_select of) (select_fits typing type condition a b) fits)))
+    (first_of_both (condition_fits (type_of typing condition) (components_in (typing.meaning type))) (has_type typing type a && has_type typing type b)
+    (three (condition_fits (type_of typing condition) (components_in (typing.meaning type))) (has_type typing type a) (has_type typing type b) (second_of_both (is_select of) (select_fits typing type condition a b) fits)))
   where
     three : (a b c : Bool) → (a && b && c) ≡ true → (a && (b && c)) ≡ true
     three true b c is = is
