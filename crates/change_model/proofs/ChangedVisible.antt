@@ -49,7 +49,8 @@ use Rattle.change_model.proofs.VisibleUses.{all_mapped, phi_seen, others_seen, p
 
 -- the type of each phi that stays is one
 abbrev pub ArePhisTyped : Planned → Type 0
-ArePhisTyped g = (place : ℕ) → (inst_at g.words.insts place).op == op.PHI ≡ true → g.plan.fate place ≡ Stays → is_shape (meaning g.words.insts (word_at 0 (inst_at g.words.insts place))) ≡ true
+ArePhisTyped g =
+    (place : ℕ) → place < length g.words.insts → (inst_at g.words.insts place).op == op.PHI ≡ true → g.plan.fate place ≡ Stays → is_shape (meaning g.words.insts (word_at 0 (inst_at g.words.insts place))) ≡ true
 
 -- ---- lists
 
@@ -273,7 +274,7 @@ module _ (g : Planned) where
     phi_type : written_at plan insts b ≡ y ∷ [] → is_defined_for old_intervals b (definition insts (word_at 0 (inst_at insts b))) ≡ true → is_defined_for new_intervals k (definition new (word_at 0 (inst_at insts b))) ≡ true
     phi_type written visible =
         let type = word_at 0 (inst_at insts b) in
-        let shape = typed b is stays in
+        let shape = typed b within is stays in
         let s = shape_by (meaning insts type) shape in
         let named = name_of_type g type s.0 s.1 in
         ap (λ (n : ℕ). is_defined_for new_intervals k (definition new n)) (sym named)

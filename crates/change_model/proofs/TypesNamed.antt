@@ -55,7 +55,7 @@ pub shape_by : (m : Meaning) → is_shape m ≡ true → (shape : Shape) × (m �
 shape_by (OfShape shape) is = (shape, refl)
 shape_by m is = cc
 
-data_shape : (m : Meaning) → is_data m ≡ true → is_shape m ≡ true
+pub data_shape : (m : Meaning) → is_data m ≡ true → is_shape m ≡ true
 data_shape (OfShape shape) is = refl
 data_shape m is = cc
 
