@@ -3,7 +3,7 @@ use Rattle.std.proofs.Common.{◌≡◌, ℕ, ◌+◌, ◌<◌, ◌≤◌, ◌==
 use Rattle.std.specs.Prelude.{filter}
 use Rattle.std.specs.List.{list_all, list_any}
 use Rattle.std.specs.Option.{unwrap_or}
-use Rattle.std.proofs.lemmas.Bool.{cases_lt, eq-eqb}
+use Rattle.std.proofs.lemmas.Bool.{cases_lt, eqb-true, eq-eqb}
 use Rattle.basics.proofs.Bools.{first_of_both, second_of_both}
 use Rattle.spirv_model.specs.declared.module.Inst.{Inst}
 use Rattle.spirv_model.specs.declared.class.Class.{Class}
@@ -23,7 +23,7 @@ use Rattle.typed_model.proofs.ValidModules.{valid_seen, valid_sound}
 use Rattle.change_model.specs.declared.fate.Fate.TheVariants.{Stays}
 use Rattle.change_model.specs.Folding.{function_at}
 use Rattle.change_model.specs.Plans.{Plan, is_dead, predecessors_left, phi_left, block_at, kept_at, branch_to, switch_to, written_at, changed}
-use Rattle.change_model.specs.PlanRules.{pairs_in, is_user, is_incoming}
+use Rattle.change_model.specs.PlanRules.{is_shape, pairs_in, is_user, is_incoming}
 use Rattle.change_model.specs.Settling.{is_plain_constant_class}
 use Rattle.change_model.proofs.BehindLevel.{end_op}
 use Rattle.change_model.proofs.ChangedBlocks.{block_end_changed}
@@ -39,18 +39,13 @@ use Rattle.change_model.proofs.MovedUp.{function_is, level_inst as level_class}
 use Rattle.change_model.proofs.NamesSeen.{front_visible, name_seen, new_before}
 use Rattle.change_model.proofs.NewConstants.{new_is_plain}
 use Rattle.change_model.proofs.PhiPairsLeft.{In, pair_left}
-use Rattle.change_model.proofs.Planned.{Planned, IsWritten, keeps, goes, picks, is_written, is_new_constant}
+use Rattle.change_model.proofs.Planned.{Planned, fits_there, IsWritten, keeps, goes, picks, is_written, is_new_constant}
 use Rattle.change_model.proofs.PlanRuns.{is_unused_at, is_unused_fate}
 use Rattle.change_model.proofs.PlanRunsKept.{used_left}
 use Rattle.change_model.proofs.TerminatorsLeft.{ends_left}
-use Rattle.change_model.proofs.TypesNamed.{is_shape, shape_by}
+use Rattle.change_model.proofs.TypesNamed.{shape_by}
 use Rattle.change_model.proofs.UsedLeft.{kept_uses}
 use Rattle.change_model.proofs.VisibleUses.{all_mapped, phi_seen, others_seen, phi_unseen, others_unseen}
-
--- the type of each phi that stays is one
-abbrev pub ArePhisTyped : Planned → Type 0
-ArePhisTyped g =
-    (place : ℕ) → place < length g.words.insts → (inst_at g.words.insts place).op == op.PHI ≡ true → g.plan.fate place ≡ Stays → is_shape (meaning g.words.insts (word_at 0 (inst_at g.words.insts place))) ≡ true
 
 -- ---- lists
 
@@ -261,7 +256,7 @@ module _ (g : Planned) where
         | inr late ↦ (let s = shape_by (meaning insts id) shape in none_some (shape_in (meaning insts id)) s.0 (function_shapeless g id at defined late) (ap shape_in s.1))
       ]
 
-  module _ (typed : ArePhisTyped g) (b : ℕ) (low : function_at insts ≤ b) (within : b < length insts) (is : (inst_at insts b).op == op.PHI ≡ true) (stays : plan.fate b ≡ Stays) where
+  module _ (b : ℕ) (low : function_at insts ≤ b) (within : b < length insts) (is : (inst_at insts b).op == op.PHI ≡ true) (stays : plan.fate b ≡ Stays) where
     abbrev blocks : List ℕ
     blocks = predecessors_left plan insts (block_at insts b)
 
@@ -274,7 +269,10 @@ module _ (g : Planned) where
     phi_type : written_at plan insts b ≡ y ∷ [] → is_defined_for old_intervals b (definition insts (word_at 0 (inst_at insts b))) ≡ true → is_defined_for new_intervals k (definition new (word_at 0 (inst_at insts b))) ≡ true
     phi_type written visible =
         let type = word_at 0 (inst_at insts b) in
-        let shape = typed b within is stays in
+        let i = phi_inside b low within is in
+        let early = i.0 in
+        let fits = fits_there g b Stays stays (record { low = omega (arith, early); high = i.1 }) in
+        let shape = fits.type (eqb-true (inst_at insts b).op op.PHI is) in
         let s = shape_by (meaning insts type) shape in
         let named = name_of_type g type s.0 s.1 in
         ap (λ (n : ℕ). is_defined_for new_intervals k (definition new n)) (sym named)
@@ -320,27 +318,27 @@ module _ (g : Planned) where
   kept_plain : (b : ℕ) → (inst_at insts b).op == op.PHI ≡ false → (kept_at plan insts b (inst_at insts b)).op == op.PHI ≡ false
   kept_plain b isnt = rw isnt isnt
 
-  written_unseen : ArePhisTyped g → (b : ℕ) (inst : Inst) → function_at insts ≤ b → b < length insts → written_at plan insts b ≡ inst ∷ [] → IsWritten g b inst → not_visible new_intervals new (place_left plan insts b) ≡ None
-  written_unseen typed b inst low within written (keeps same is) = by_phi ((inst_at insts b).op == op.PHI) refl
+  written_unseen : (b : ℕ) (inst : Inst) → function_at insts ≤ b → b < length insts → written_at plan insts b ≡ inst ∷ [] → IsWritten g b inst → not_visible new_intervals new (place_left plan insts b) ≡ None
+  written_unseen b inst low within written (keeps same is) = by_phi ((inst_at insts b).op == op.PHI) refl
     where
       kept_written : written_at plan insts b ≡ kept_at plan insts b (inst_at insts b) ∷ []
       kept_written = written ∙ ap (λ (i : Inst). i ∷ []) (sym is)
 
       by_phi : (x : Bool) → (inst_at insts b).op == op.PHI ≡ x → not_visible new_intervals new (place_left plan insts b) ≡ None
-      by_phi true phi = phi_left_unseen typed b low within phi same (kept_written ∙ ap (λ (i : Inst). i ∷ []) (kept_phi b phi))
+      by_phi true phi = phi_left_unseen b low within phi same (kept_written ∙ ap (λ (i : Inst). i ∷ []) (kept_phi b phi))
       by_phi false isnt = others_left b (kept_at plan insts b (inst_at insts b)) low within kept_written isnt (kept_plain b isnt) (kept_uses g b low within isnt)
-  written_unseen typed b inst low within written (goes label same may is) =
+  written_unseen b inst low within written (goes label same may is) =
       let at = written_there g b inst low within written ∙ sym is in
       nothing_unseen new_intervals new (place_left plan insts b) (ap (λ (i : Inst). i.op == op.PHI) at) (ap used_ids at ∙ branch_used label)
-  written_unseen typed b inst low within written (picks label same may is) =
+  written_unseen b inst low within written (picks label same may is) =
       let old = inst_at insts b in
       let y = switch_to (plan.name (word_at 0 old)) label in
       others_left b y low within (written ∙ ap (λ (i : Inst). i ∷ []) (sym is)) (ap (λ (o : ℕ). o == op.PHI) may.is_switch) refl
       (switch_used y refl ∙ ap (map plan.name) (sym (switch_used old may.is_switch)))
 
-  -- where the phis that stay have types
-  pub visible_typed : ArePhisTyped g → (k : ℕ) → k < length new → not_visible new_intervals new k ≡ None
-  visible_typed typed k within = by_kind (stood_at plan insts k (function_within insts) within)
+  -- what an instruction of the new list uses is visible where it stands
+  pub visible_changed : (k : ℕ) → k < length new → not_visible new_intervals new k ≡ None
+  visible_changed k within = by_kind (stood_at plan insts k (function_within insts) within)
     where
       by_kind : StoodAt plan insts k → not_visible new_intervals new k ≡ None
       by_kind (of_level low) = level_unseen k low
@@ -349,4 +347,4 @@ module _ (g : Planned) where
           let plain = (new_is_plain g old inst (is_new_constant g old inst is)).class_is in
           nothing_unseen new_intervals new k
           (ap (λ (i : Inst). i.op == op.PHI) at ∙ another (λ (o : ℕ). is_plain_constant_class (class_of o)) op.PHI no_constants.phi inst.op plain) (ap used_ids at ∙ constant_used inst plain)
-      by_kind (of_function old inst low high is there found) = ap (not_visible new_intervals new) (sym there) ∙ written_unseen typed old inst low high is (is_written g old inst is)
+      by_kind (of_function old inst low high is there found) = ap (not_visible new_intervals new) (sym there) ∙ written_unseen old inst low high is (is_written g old inst is)

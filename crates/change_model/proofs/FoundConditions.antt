@@ -19,7 +19,7 @@ use Rattle.change_model.proofs.FoundPlans.{Found}
 use Rattle.change_model.proofs.FoundGoes.{stays_names}
 use Rattle.change_model.proofs.FoundHeld.{loop_within, loop_at, loop_free, leaves_test, test_place, opened_left, left_there, held_on}
 use Rattle.change_model.proofs.FoundLabels.{named_alive, same_block}
-use Rattle.change_model.proofs.FoundOrigins.{Origin, goes_away, by_phi, by_load, by_chain, by_selection, by_loop, by_end, by_branch, by_switch, by_picks, by_folds, origin, alive_fate, alive_choice}
+use Rattle.change_model.proofs.FoundOrigins.{Origin, goes_away, by_phi, by_load, by_chain, by_untyped, by_selection, by_loop, by_end, by_branch, by_switch, by_picks, by_folds, origin, alive_fate, alive_choice}
 use Rattle.change_model.proofs.FoundOrigins as source
 use Rattle.change_model.proofs.ConditionNames.{target_names, branch_targets}
 use Rattle.change_model.proofs.LeftBlockNames.{Silent, silent_names}
@@ -117,6 +117,7 @@ module _ (f : Found) where
   skipped_by place merge held what (by_phi is) = refl
   skipped_by place merge held what (by_load is empty) = refl
   skipped_by place merge held what (by_chain is empty) = refl
+  skipped_by place merge held what (by_untyped is untyped) = refl
   skipped_by place merge held what (by_end label is unselected known leaves) = refl
   skipped_by place merge held what (by_branch label is selected skipped way) = refl
   skipped_by place merge held what (by_switch label is skipped way) = refl
@@ -134,6 +135,7 @@ module _ (f : Found) where
   stays_by place merge label held other before named what (by_phi is) alive = unnamed place label op.PHI is phi_silent named
   stays_by place merge label held other before named what (by_load is empty) alive = unnamed place label op.LOAD is load_silent named
   stays_by place merge label held other before named what (by_chain is empty) alive = unnamed place label op.ACCESS_CHAIN is chain_silent named
+  stays_by place merge label held other before named what (by_untyped is untyped) alive = unnamed place label op.PHI is phi_silent named
   stays_by place merge label held other before named what (by_selection to is free way) alive = held_free (held_at insts place) merge held free
   stays_by place merge label held other before named what (by_loop is opened) alive = never_held (held_at insts place) merge held (loop_free f place is)
   stays_by place merge label held other before named what (by_end to is unselected known leaves) alive =

@@ -17,7 +17,7 @@ use Rattle.change_model.specs.declared.fate.Fate.{Fate}
 use Rattle.change_model.specs.declared.fate.Fate.TheVariants as fate
 use Rattle.change_model.specs.PlanRules.{scalar_as, scalar_of, scalar_left}
 use Rattle.change_model.proofs.FoundPlans.{Found}
-use Rattle.change_model.proofs.FoundOrigins.{Origin, goes_away, stays, by_phi, by_load, by_chain, by_selection, by_loop, by_end, by_branch, by_switch, by_picks, by_folds, origin}
+use Rattle.change_model.proofs.FoundOrigins.{Origin, goes_away, stays, by_phi, by_load, by_chain, by_untyped, by_selection, by_loop, by_end, by_branch, by_switch, by_picks, by_folds, origin}
 use Rattle.change_model.proofs.PlanRunsNames.{phi_result}
 
 -- the opcode of a constant
@@ -91,6 +91,7 @@ module _ (f : Found) where
   phi_by place what stays same = cc
   phi_by place what (by_load is empty) same = cc
   phi_by place what (by_chain is empty) same = cc
+  phi_by place what (by_untyped is untyped) same = cc
   phi_by place what (by_selection label is free way) same = cc
   phi_by place what (by_loop is opened) same = cc
   phi_by place what (by_end label is unselected held known) same = cc
@@ -127,6 +128,7 @@ module _ (f : Found) where
   scalar_by_origin place what (by_phi is) constant = refl
   scalar_by_origin place what (by_load is empty) constant = isnt_op (inst_at f.words.insts place).op op.LOAD is refl (other_op (inst_at f.words.insts place).op op.LOAD constant refl refl refl refl)
   scalar_by_origin place what (by_chain is empty) constant = refl
+  scalar_by_origin place what (by_untyped is untyped) constant = refl
   scalar_by_origin place what (by_selection label is free way) constant = refl
   scalar_by_origin place what (by_loop is opened) constant = refl
   scalar_by_origin place what (by_end label is unselected held known) constant = refl

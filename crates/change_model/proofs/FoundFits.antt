@@ -5,21 +5,25 @@ use Rattle.spirv_model.specs.declared.module.Inst.{Inst}
 use Rattle.spirv_model.specs.declared.op.TheConstants as op
 use Rattle.spirv_model.specs.Operands.{word_at, words_from}
 use Rattle.scalar_model.specs.Scalars.{scalar_result}
+use Rattle.valid_model.specs.declared.meaning.Meaning.{Meaning}
 use Rattle.valid_model.specs.Definitions.{inst_at}
+use Rattle.valid_model.specs.Meanings.{meaning}
 use Rattle.check_model.specs.Intervals.{intervals_of}
 use Rattle.unit_model.specs.ConstantScalars.{is_behind, is_left_from_within}
 use Rattle.change_model.specs.declared.fate.Fate.{Fate}
 use Rattle.change_model.specs.declared.fate.Fate.TheVariants as fate
 use Rattle.change_model.specs.Plans.{is_dead, block_at}
-use Rattle.change_model.specs.PlanRules.{goes, is_skipped, root_of, scalar_left, may_keep_phis, MayStay, selection, IsResolved, MayBeUnused, FateFits, is_left_within}
-use Rattle.change_model.specs.Passes.{known_before, chosen_way, switched_way, has_one_way, may_become_branch, way_behind, goes_to}
+use Rattle.change_model.specs.PlanRules.{goes, is_shape, is_skipped, root_of, scalar_left, may_keep_phis, MayStay, selection, IsResolved, MayBeUnused, FateFits, is_left_within}
+use Rattle.change_model.specs.Passes.{phi_fate, known_before, chosen_way, switched_way, has_one_way, may_become_branch, way_behind, goes_to}
 use Rattle.change_model.proofs.ConditionNames.{inside_at}
 use Rattle.change_model.proofs.FoundPlans.{Found}
 use Rattle.change_model.proofs.FoundGoes.{leaves_to, leaves_only}
 use Rattle.change_model.proofs.FoundKnown.{known_left, result_known, only_chosen, only_switched}
 use Rattle.change_model.proofs.FoundLoops.{may_skip_loop, loop_keeps_test}
-use Rattle.change_model.proofs.FoundOrigins.{Origin, goes_away, by_phi, by_load, by_chain, by_selection, by_loop, by_end, by_branch, by_switch, by_picks, by_folds, origin, alive_fate, alive_choice, alive_switch}
+use Rattle.change_model.proofs.FoldsThere.{taken}
+use Rattle.change_model.proofs.FoundOrigins.{Origin, goes_away, by_phi, by_load, by_chain, by_untyped, by_selection, by_loop, by_end, by_branch, by_switch, by_picks, by_folds, origin, alive_fate, alive_choice, alive_phi, alive_switch, dead_fate}
 use Rattle.change_model.proofs.FoundOrigins as source
+use Rattle.change_model.proofs.LeftScopes.{is_label_at}
 use Rattle.change_model.proofs.FoundWithin.{none_within, one_way_default}
 use Rattle.change_model.proofs.LeftPlacedWhole.{outside_silent}
 
@@ -61,6 +65,7 @@ module _ (f : Found) (place : ℕ) (is : (inst_at f.words.insts place).op ≡ op
   stays_by stays what (by_phi own) = refl
   stays_by stays what (by_load own empty) = refl
   stays_by stays what (by_chain own empty) = refl
+  stays_by stays what (by_untyped own untyped) = refl
   stays_by stays what (by_selection label own free way) = refl
   stays_by stays what (by_loop own opened) = refl
   stays_by stays what (by_picks label own free way) = refl
@@ -134,6 +139,7 @@ module _ (f : Found) (place label : ℕ) (own : (inst_at f.words.insts place).op
   skipped_way what (by_phi is) skipped = cc
   skipped_way what (by_load is empty) skipped = cc
   skipped_way what (by_chain is empty) skipped = cc
+  skipped_way what (by_untyped is untyped) skipped = cc
   skipped_way what (by_end to is unselected held leaves) skipped = cc
   skipped_way what (by_branch to is selected also way) skipped = cc
   skipped_way what (by_switch to is also way) skipped = cc
@@ -158,6 +164,32 @@ module _ (f : Found) (place label : ℕ) (own : (inst_at f.words.insts place).op
       let same = one_way_default (known_before f.plan f.words.insts place (word_at 0 inst)) inst label parts.0 way in
       ap (λ (n : ℕ). is_left_within f.plan f.words.insts (intervals_of f.valid.derivation) n merge) same ∙ none_within f (word_at 1 inst) merge parts.1
 
+-- ---- the type of a phi that stays
+
+unused_stays : fate.Unused ≡ fate.Stays → ⊥
+unused_stays is = cc
+
+dead_stays : fate.Dead ≡ fate.Stays → ⊥
+dead_stays is = cc
+
+module _ (f : Found) (place : ℕ) (low : f.valid.derivation.before < place) (high : place < f.valid.derivation.after) where
+  phi_typed : (inst_at f.words.insts place).op ≡ op.PHI → f.plan.fate place ≡ fate.Stays → is_shape (meaning f.words.insts (word_at 0 (inst_at f.words.insts place))) ≡ true
+  phi_typed is same = by_block (is_dead (f.plan.fate (place - 1))) refl
+    where
+      type : Meaning
+      type = meaning f.words.insts (word_at 0 (inst_at f.words.insts place))
+
+      no_label : is_label_at f.words.insts place ≡ false
+      no_label = ap (λ (n : ℕ). n == op.LABEL) is
+
+      by_shape : (b : Bool) → is_shape type ≡ b → phi_fate (intervals_of f.valid.derivation) f.words.insts f.plan place ≡ fate.Stays → is_shape type ≡ true
+      by_shape true shape found = shape
+      by_shape false untyped found = absurd (unused_stays (sym (taken (not (is_shape type)) _ _ (ap not untyped)) ∙ found))
+
+      by_block : (b : Bool) → is_dead (f.plan.fate (place - 1)) ≡ b → is_shape type ≡ true
+      by_block true dead = absurd (dead_stays (sym (dead_fate f place low high no_label dead) ∙ same))
+      by_block false alive = by_shape (is_shape type) refl (sym (alive_fate f place low high no_label alive ∙ alive_phi f place is) ∙ same)
+
 -- ---- all of it
 
 -- what the plan of one pass owes for phis and for what nobody uses
@@ -175,6 +207,7 @@ module _ (f : Found) (owed : Owed f) (place : ℕ) (low : f.valid.derivation.bef
     selection = λ is. branch_kept f place is stays;
     loop = λ is test tests. loop_keeps_test f place is stays test tests;
     phi = λ is. owed.kept place low high is stays;
+    type = λ is. phi_typed f place low high is stays;
     load = λ is. f.is.unread (root_of f.words.insts (word_at 2 (inst_at f.words.insts place)));
   }
 
@@ -184,6 +217,7 @@ module _ (f : Found) (owed : Owed f) (place : ℕ) (low : f.valid.derivation.bef
   by_origin what same (by_phi is) = owed.resolved place low high same
   by_origin what same (by_load is empty) = record { is_load = is; is_zero = empty }
   by_origin what same (by_chain is empty) = owed.unused place low high same
+  by_origin what same (by_untyped is untyped) = owed.unused place low high same
   by_origin what same (by_selection label is free way) = selection is (branch_goes f place is low label same (ap (way_behind (intervals_of f.valid.derivation) f.words.insts f.plan) {x = place + 1} {y = suc place} (omega arith) ∙ way))
   by_origin what same (by_loop is opened) = may_skip_loop f place is opened same
   by_origin what same (by_end label is unselected held leaves) = record {

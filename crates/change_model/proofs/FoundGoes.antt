@@ -16,7 +16,7 @@ use Rattle.change_model.specs.Passes.{is_label, leaving_to}
 use Rattle.change_model.proofs.FoundPlans.{Found}
 use Rattle.change_model.proofs.FoundConstants.{constant_left}
 use Rattle.change_model.proofs.FoundKnown.{chosen_known, only_choice, only_chosen, only_switched}
-use Rattle.change_model.proofs.FoundOrigins.{Origin, goes_away, by_phi, by_load, by_chain, by_selection, by_loop, by_end, by_branch, by_switch, by_picks, by_folds, origin}
+use Rattle.change_model.proofs.FoundOrigins.{Origin, goes_away, by_phi, by_load, by_chain, by_untyped, by_selection, by_loop, by_end, by_branch, by_switch, by_picks, by_folds, origin}
 use Rattle.change_model.proofs.FoundOrigins as source
 use Rattle.change_model.proofs.LeftAlive.{only_among}
 use Rattle.change_model.proofs.LeftScopes.{names}
@@ -88,6 +88,7 @@ module _ (f : Found) (place : ℕ) where
   only_way what (by_phi is) = tt
   only_way what (by_load is empty) = tt
   only_way what (by_chain is empty) = tt
+  only_way what (by_untyped is untyped) = tt
   only_way what (by_selection label is free way) = tt
   only_way what (by_loop is opened) = tt
   only_way what (by_folds known is comes) = tt

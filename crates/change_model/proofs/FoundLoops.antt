@@ -12,7 +12,7 @@ use Rattle.change_model.specs.Passes.{opens, held_at}
 use Rattle.change_model.proofs.FoundPlans.{Found}
 use Rattle.change_model.proofs.FoundConditions.{test_goes}
 use Rattle.change_model.proofs.FoundHeld.{loop_within, loop_at, leaves_test, test_place, held_by, one_loop}
-use Rattle.change_model.proofs.FoundOrigins.{Origin, goes_away, by_phi, by_load, by_chain, by_selection, by_loop, by_end, by_branch, by_switch, by_picks, by_folds, origin, dead_fate, alive_fate, alive_loop}
+use Rattle.change_model.proofs.FoundOrigins.{Origin, goes_away, by_phi, by_load, by_chain, by_untyped, by_selection, by_loop, by_end, by_branch, by_switch, by_picks, by_folds, origin, dead_fate, alive_fate, alive_loop}
 use Rattle.change_model.proofs.FoundOrigins as source
 use Rattle.change_model.proofs.LoopTests.{test_of}
 
@@ -70,6 +70,7 @@ module _ (f : Found) (place : ℕ) where
     by_origin what (by_phi own) = refl
     by_origin what (by_load own empty) = refl
     by_origin what (by_chain own empty) = refl
+    by_origin what (by_untyped own untyped) = refl
     by_origin what (by_selection label own free way) = refl
     by_origin what (by_loop own opened) = refl
     by_origin what (by_picks label own free way) = refl

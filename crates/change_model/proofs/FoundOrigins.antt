@@ -7,6 +7,7 @@ use Rattle.spirv_model.specs.Operands.{word_at, words_from, class_of}
 use Rattle.scalar_model.specs.declared.scalar_value.Scalar.{Scalar}
 use Rattle.scalar_model.specs.Scalars.{scalar_result}
 use Rattle.valid_model.specs.Definitions.{inst_at}
+use Rattle.valid_model.specs.Meanings.{meaning}
 use Rattle.check_model.specs.Intervals.{intervals_of}
 use Rattle.check_model.specs.Visibility.{Incoming}
 use Rattle.unit_model.specs.ConstantScalars.{is_behind, is_scalar_class}
@@ -14,8 +15,8 @@ use Rattle.change_model.specs.declared.fate.Fate.{Fate}
 use Rattle.change_model.specs.declared.fate.Fate.TheVariants as fate
 use Rattle.change_model.specs.Folding.{all_constants}
 use Rattle.change_model.specs.Plans.{is_dead, block_at}
-use Rattle.change_model.specs.PlanRules.{is_skipped, is_zero_input, root_of}
-use Rattle.change_model.specs.Passes.{is_free, opens, held_at, is_label, leaving_to, known_before, chosen_way, switched_way, has_one_way, way_behind, skips_to, goes_to, picks_one, folds_to, merge_fate, test_fate, branch_fate, switch_fate, heads_loop, keeps_phis, stands_at, pairs_found, phi_fate_of, fate_alive, is_named_before, label_fate, fate_found}
+use Rattle.change_model.specs.PlanRules.{is_shape, is_skipped, is_zero_input, root_of}
+use Rattle.change_model.specs.Passes.{is_free, opens, held_at, is_label, leaving_to, known_before, chosen_way, switched_way, has_one_way, way_behind, skips_to, goes_to, picks_one, folds_to, merge_fate, test_fate, branch_fate, switch_fate, heads_loop, keeps_phis, stands_at, pairs_found, phi_fate, phi_fate_of, fate_alive, is_named_before, label_fate, fate_found}
 use Rattle.change_model.proofs.FoundPlans.{Found, found_at}
 use Rattle.change_model.proofs.LeftScopes.{is_label_at}
 
@@ -46,6 +47,7 @@ pub data Origin (f : Found) (place : ℕ) : Fate → Type 0 where
   by_phi : (inst_at f.words.insts place).op ≡ op.PHI → Origin f place fate.Resolves
   by_load : (inst_at f.words.insts place).op ≡ op.LOAD → is_zero_input f.words.insts f.zeros (root_of f.words.insts (word_at 2 (inst_at f.words.insts place))) ≡ true → Origin f place fate.Nulls
   by_chain : (inst_at f.words.insts place).op ≡ op.ACCESS_CHAIN → is_zero_input f.words.insts f.zeros (word_at 2 (inst_at f.words.insts place)) ≡ true → Origin f place fate.Unused
+  by_untyped : (inst_at f.words.insts place).op ≡ op.PHI → is_shape (meaning f.words.insts (word_at 0 (inst_at f.words.insts place))) ≡ false → Origin f place fate.Unused
   by_selection : (label : ℕ) → (inst_at f.words.insts place).op ≡ op.SELECTION_MERGE → is_free f.words.insts place ≡ true
       → way_behind (intervals_of f.valid.derivation) f.words.insts f.plan (suc place) ≡ Some label → Origin f place fate.Skips
   by_loop : (inst_at f.words.insts place).op ≡ op.LOOP_MERGE → opens f.words.insts place ≡ true → Origin f place fate.Skips
@@ -99,7 +101,8 @@ module _ (f : Found) (place : ℕ) where
       let insts = f.words.insts in
       let inst = inst_at insts place in
       choose Alive (inst.op == op.PHI)
-      (λ is. choose Alive (heads_loop insts (block_at insts place)) (λ heads. one refl stays) (λ other. phi_by (op_is inst.op op.PHI is) (pairs_found f.plan insts place)))
+      (λ is. choose Alive (not (is_shape (meaning insts (word_at 0 inst)))) (λ untyped. one refl (by_untyped (op_is inst.op op.PHI is) (shut_test (is_shape (meaning insts (word_at 0 inst))) untyped)))
+      (λ typed. choose Alive (heads_loop insts (block_at insts place)) (λ heads. one refl stays) (λ other. phi_by (op_is inst.op op.PHI is) (pairs_found f.plan insts place))))
       (λ _. choose Alive (inst.op == op.LOAD)
       (λ is. choose Alive (is_zero_input insts f.zeros (root_of insts (word_at 2 inst))) (λ is_zero. (one refl (by_load (op_is inst.op op.LOAD is) is_zero))) (λ other. one refl stays))
       (λ _. choose Alive (inst.op == op.ACCESS_CHAIN)
@@ -164,6 +167,9 @@ module _ (f : Found) (place : ℕ) where
   pub alive_loop : (inst_at f.words.insts place).op ≡ op.LOOP_MERGE → fate_alive (intervals_of f.valid.derivation) f.words.insts f.zeros f.plan place
       ≡ (if opens f.words.insts place then fate.Skips else fate.Stays)
   alive_loop is = rw is refl
+
+  pub alive_phi : (inst_at f.words.insts place).op ≡ op.PHI → fate_alive (intervals_of f.valid.derivation) f.words.insts f.zeros f.plan place ≡ phi_fate (intervals_of f.valid.derivation) f.words.insts f.plan place
+  alive_phi is = rw is refl
 
   pub alive_choice : (inst_at f.words.insts place).op ≡ op.BRANCH_CONDITIONAL → fate_alive (intervals_of f.valid.derivation) f.words.insts f.zeros f.plan place ≡ branch_fate (intervals_of f.valid.derivation) f.words.insts f.plan place
   alive_choice is = rw is refl

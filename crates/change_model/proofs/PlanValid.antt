@@ -11,6 +11,7 @@ use Rattle.check_model.specs.Visibility.{not_visible}
 use Rattle.change_model.specs.Plans.{changed}
 use Rattle.change_model.proofs.ChangedEntry.{entry_changed}
 use Rattle.change_model.proofs.ChangedInterface.{flat_changed, locations_changed}
+use Rattle.change_model.proofs.ChangedVisible.{visible_changed}
 use Rattle.change_model.proofs.ChangedWritable.{changed_written}
 use Rattle.change_model.proofs.ConstantsValid.{use_faultless, none_at_all, none_of, all_none}
 use Rattle.change_model.proofs.LeftFunction.{plan_derives}
@@ -56,3 +57,7 @@ plan_valid_by g visible = record {
   sound = plan_sound g;
   faultless = faultless g visible g.valid.faultless;
 }
+
+-- the list that a plan makes is a valid module
+pub plan_valid : (g : Planned) → IsValidList (record { bound = g.words.bound; insts = changed g.plan g.words.insts })
+plan_valid g = plan_valid_by g (visible_changed g)

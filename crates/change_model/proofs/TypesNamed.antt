@@ -41,15 +41,12 @@ use Rattle.typed_model.proofs.ResultIds.{is_named, named}
 use Rattle.typed_model.proofs.ValidModules.{valid_sound}
 use Rattle.typed_model.proofs.ValidTypes.{keeps_rules, pointer_by, unbroken, stays_known}
 use Rattle.change_model.specs.Folding.{function_at}
+use Rattle.change_model.specs.PlanRules.{is_shape}
 use Rattle.change_model.proofs.BehindLevel.{fails_function, type_fails}
 use Rattle.change_model.proofs.ChangedNames.{name_of_type}
 use Rattle.change_model.proofs.Planned.{Planned}
 
 -- ---- shapes
-
-abbrev pub is_shape : Meaning → Bool
-is_shape (OfShape shape) = true
-is_shape meaning = false
 
 pub shape_by : (m : Meaning) → is_shape m ≡ true → (shape : Shape) × (m ≡ OfShape shape)
 shape_by (OfShape shape) is = (shape, refl)

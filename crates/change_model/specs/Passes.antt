@@ -11,6 +11,7 @@ use Rattle.spirv_model.specs.Operands.{word_at, words_from, class_of}
 use Rattle.scalar_model.specs.declared.scalar_value.Scalar.{Scalar}
 use Rattle.scalar_model.specs.Scalars.{scalar_result}
 use Rattle.valid_model.specs.Definitions.{definition, inst_at}
+use Rattle.valid_model.specs.Meanings.{meaning}
 use Rattle.check_model.specs.Branches.{block_end_of}
 use Rattle.check_model.specs.Intervals.{Interval, intervals_of, is_visible}
 use Rattle.check_model.specs.Validity.{IsValidList}
@@ -20,7 +21,7 @@ use Rattle.change_model.specs.declared.fate.Fate.{Fate}
 use Rattle.change_model.specs.declared.fate.Fate.TheVariants.{Dead, Stays, Goes, Picks, Folds, Nulls, Resolves, Skips, Unused}
 use Rattle.change_model.specs.Folding.{all_constants}
 use Rattle.change_model.specs.Plans.{Plan, is_dead, leads_from, block_at}
-use Rattle.change_model.specs.PlanRules.{still_names, is_skipped, is_nothing, is_constant_fate, scalar_as, switched_target, root_of, is_zero_input, stays, IsResolvedId}
+use Rattle.change_model.specs.PlanRules.{still_names, is_skipped, is_nothing, is_constant_fate, scalar_as, switched_target, root_of, is_zero_input, is_shape, stays, IsResolvedId}
 
 -- ---- loops that are left at once
 
@@ -167,7 +168,9 @@ phi_fate_of intervals insts plan place pairs = Stays
 
 abbrev pub phi_fate : List Interval → List Inst → Plan → ℕ → Fate
 phi_fate intervals insts plan place =
-    if heads_loop insts (block_at insts place) then Stays else phi_fate_of intervals insts plan place (pairs_found plan insts place)
+    if not (is_shape (meaning insts (word_at 0 (inst_at insts place)))) then Unused
+    else if heads_loop insts (block_at insts place) then Stays
+    else phi_fate_of intervals insts plan place (pairs_found plan insts place)
 
 -- ---- results
 

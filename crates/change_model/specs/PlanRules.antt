@@ -15,7 +15,7 @@ use Rattle.body_model.specs.Classes.{is_plain}
 use Rattle.body_model.specs.Switches.{is_among}
 use Rattle.body_model.specs.Targets.{targets}
 use Rattle.valid_model.specs.declared.meaning.Meaning.{Meaning}
-use Rattle.valid_model.specs.declared.meaning.Meaning.TheVariants.{Variable}
+use Rattle.valid_model.specs.declared.meaning.Meaning.TheVariants.{Shape as OfShape, Variable}
 use Rattle.valid_model.specs.Definitions.{definition, inst_at}
 use Rattle.valid_model.specs.DecorationWords.{decoration_of}
 use Rattle.valid_model.specs.Meanings.{meaning}
@@ -167,11 +167,17 @@ lets_phis plan insts label place = stays (plan.fate place)
 abbrev pub may_keep_phis : Plan → List Inst → ℕ → Bool
 may_keep_phis plan insts label = list_any (lets_phis plan insts label) (range_with_len 0 (length insts))
 
+abbrev pub is_shape : Meaning → Bool
+is_shape (OfShape shape) = true
+is_shape meaning = false
+
 pub record MayStay (plan : Plan) (insts : List Inst) (place : ℕ) : Type 0 where
   pub selection : (inst_at insts place).op ≡ op.SELECTION_MERGE → goes (plan.fate (place + 1)) ≡ false
   pub loop : (inst_at insts place).op ≡ op.LOOP_MERGE → (test : ℕ) → is_test_of insts (word_at 0 (inst_at insts place)) test ≡ true
       → goes (plan.fate test) ≡ false
   pub phi : (inst_at insts place).op ≡ op.PHI → may_keep_phis plan insts (block_at insts place) ≡ true
+  -- a phi to which no value comes may name anything for its type
+  pub type : (inst_at insts place).op ≡ op.PHI → is_shape (meaning insts (word_at 0 (inst_at insts place))) ≡ true
   pub load : (inst_at insts place).op ≡ op.LOAD → plan.is_unread (root_of insts (word_at 2 (inst_at insts place))) ≡ false
 
 -- a branch of a selection or an OpSwitch whose merge instruction goes, or the end of the condition sequence of a loop that is left at
