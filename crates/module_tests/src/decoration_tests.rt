@@ -1,6 +1,6 @@
 //! What decorations say, and the first bad one.
-use sample_modules::frame::{Listing, list_of};
 use crate::id_tests::{answer, sound_ids};
+use sample_modules::frame::{Listing, list_of};
 use sample_modules::sample_words::{QUOTIENT, UNIFORM_QUOTIENT};
 use sample_modules::shader_words::ATTRIBUTE;
 use spirv_model::{builtin, decoration, execution_model, op, storage_class};

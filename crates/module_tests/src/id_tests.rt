@@ -1,8 +1,8 @@
 //! What ids mean, and the first fault of ids, types and constants.
+use limits::MODULE_WORDS;
 use sample_modules::frame::{Listing, list_of};
 use sample_modules::sample_words::{QUOTIENT, UNIFORM_QUOTIENT};
 use sample_modules::shader_words::{ATTRIBUTE, NUMBER, POINT};
-use limits::MODULE_WORDS;
 use spirv_model::{Inst, Items, Words, decoration, op};
 use spv_types::{Ids, Meaning, Shape, TypeFault, ids_of};
 use spv_words::read_module;

@@ -1,5 +1,5 @@
-use sample_modules::frame::{FRONT, Listing, add, module, words_of};
 use body_model::TreeFault;
+use sample_modules::frame::{FRONT, Listing, add, module, words_of};
 use spirv_model::op;
 use spv_check::{CheckFault, check};
 use std::alloc::{AllocError, Global};

@@ -1,11 +1,11 @@
 //! Runs of sample modules. What they leave and their work, the number of instructions from each label to its block's end, are
 //! counted by hand.
 
-use sample_modules::frame::words_of;
 use crate::outcomes::{
     at_first_location, done, entry, first_buffer_bound, no_entries, no_inputs, nothing, one_buffer,
     one_word, outcome, run_on, run_over, run_plain, run_with_entry,
 };
+use sample_modules::frame::words_of;
 use sample_modules::sample_words::{
     CASES, DISCARDED, ENDLESS, EXCHANGE, INDEXED, LEFT_EARLY, QUOTIENT, SUM, UNIFORM_QUOTIENT,
 };

@@ -1,5 +1,5 @@
-use sample_modules::frame::{FRONT, add, words_of};
 use limits::MODULE_WORDS;
+use sample_modules::frame::{FRONT, add, words_of};
 use spirv_model::op;
 use spv_check::check;
 use std::alloc::{AllocError, Global};

@@ -1,8 +1,8 @@
 //! Words are read as instructions, and instructions written as words.
+use limits::{MAX_BOUND, MODULE_WORDS};
 use sample_modules::frame::inst;
 use sample_modules::sample_words::{QUOTIENT, UNIFORM_QUOTIENT};
 use sample_modules::shader_words::{ATTRIBUTE, NUMBER, POINT};
-use limits::{MAX_BOUND, MODULE_WORDS};
 use spirv_model::{WordsFault, op};
 use spv_words::{Entry, entry_of, ids, ids_are_below, read_module, result, write_module};
 use std::alloc::{AllocError, Global};
