@@ -221,3 +221,5 @@ pub mod ChangedPhis
 pub mod ChangedVisible
 pub mod FoundReduced
 pub mod ConstantChoices
+pub mod PlanChanges
+pub mod SpecializedLeft
