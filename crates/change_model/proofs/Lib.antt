@@ -223,3 +223,4 @@ pub mod FoundReduced
 pub mod ConstantChoices
 pub mod PlanChanges
 pub mod SpecializedLeft
+pub mod ConstantsSpecialized
