@@ -127,14 +127,14 @@ all_suit words v (id ∷ ids) scalars is = by_first (all_suit words v ids) (cons
     by_first further (Some scalar) one None are scalars some = cc
     by_first further (Some scalar) one (Some more) are [] some = cc
     by_first further (Some scalar) one (Some more) are (head ∷ tail) some =
-        let h : scalar ≡ head = head_is scalar head more tail some in let t : more ≡ tail = tail_is scalar head more tail some in
-        (
+        let h : scalar ≡ head = head_is scalar head more tail some in let t : more ≡ tail = tail_is scalar head more tail some in (
           suits_one words v id head (one ∙ ap (λ (s : Scalar). Some s) h),
           further tail (are ∙ ap (λ (l : List Scalar). Some l) t),
         )
       where
         head_is : (a b : Scalar) (xs ys : List Scalar) → ◌≡◌ {A = Option (List Scalar)} (Some (a ∷ xs)) (Some (b ∷ ys)) → a ≡ b
         head_is a b xs ys is = cc
+
         tail_is : (a b : Scalar) (xs ys : List Scalar) → ◌≡◌ {A = Option (List Scalar)} (Some (a ∷ xs)) (Some (b ∷ ys)) → xs ≡ ys
         tail_is a b xs ys is = cc
 
@@ -233,7 +233,7 @@ end_alike program types constant vertex operation type ids (x ∷ y ∷ []) fit 
 end_alike program types constant vertex operation type (condition ∷ a ∷ b ∷ []) (c ∷ x ∷ y ∷ []) fit suit =
     let typing = typing_in program constant vertex in
     let f = three (condition_fits (type_of typing condition) (components_in (program.meaning type))) (has_type typing type a) (has_type typing type b)
-        (second_of_both (is_select operation) (select_fits typing type condition a b) fit) in
+    (second_of_both (is_select operation) (select_fits typing type condition a b) fit) in
     select_alike program types constant vertex type a b x y (components_in (program.meaning type)) refl (has_components (type_of typing condition) (components_in (program.meaning type)) f.0) f.1 f.2 suit.1.0 suit.1.1.0
 end_alike program types constant vertex operation type [] (c ∷ x ∷ y ∷ []) fit suit = absurd suit
 end_alike program types constant vertex operation type (a ∷ []) (c ∷ x ∷ y ∷ []) fit suit = absurd suit.1

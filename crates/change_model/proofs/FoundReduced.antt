@@ -117,16 +117,16 @@ unfolding fate_found
 operation_found s place low high is =
     let f = s.found in let insts = f.words.insts in let n = no_scalars in let inst = inst_at insts place in
     sym (
-      left_out (inst.op == op.LABEL) _ _ (isnt insts place op.LABEL n.label is)
-      ∙ left_out (is_dead (f.plan.fate (place - 1))) _ _ (ap is_dead (s.stays (place - 1)))
-      ∙ left_out (inst.op == op.PHI) _ _ (isnt insts place op.PHI n.phi is)
-      ∙ left_out (inst.op == op.LOAD) _ _ (isnt insts place op.LOAD n.load is)
-      ∙ left_out (inst.op == op.ACCESS_CHAIN) _ _ (isnt insts place op.ACCESS_CHAIN n.chain is)
-      ∙ left_out (inst.op == op.SELECTION_MERGE) _ _ (isnt insts place op.SELECTION_MERGE n.selection is)
-      ∙ left_out (inst.op == op.LOOP_MERGE) _ _ (isnt insts place op.LOOP_MERGE n.loop is)
-      ∙ left_out (inst.op == op.BRANCH_CONDITIONAL) _ _ (isnt insts place op.BRANCH_CONDITIONAL n.branch is)
-      ∙ left_out (inst.op == op.SWITCH) _ _ (isnt insts place op.SWITCH n.switch is)
-      ∙ taken (is_scalar inst.op) _ _ is
+    left_out (inst.op == op.LABEL) _ _ (isnt insts place op.LABEL n.label is)
+    ∙ left_out (is_dead (f.plan.fate (place - 1))) _ _ (ap is_dead (s.stays (place - 1)))
+    ∙ left_out (inst.op == op.PHI) _ _ (isnt insts place op.PHI n.phi is)
+    ∙ left_out (inst.op == op.LOAD) _ _ (isnt insts place op.LOAD n.load is)
+    ∙ left_out (inst.op == op.ACCESS_CHAIN) _ _ (isnt insts place op.ACCESS_CHAIN n.chain is)
+    ∙ left_out (inst.op == op.SELECTION_MERGE) _ _ (isnt insts place op.SELECTION_MERGE n.selection is)
+    ∙ left_out (inst.op == op.LOOP_MERGE) _ _ (isnt insts place op.LOOP_MERGE n.loop is)
+    ∙ left_out (inst.op == op.BRANCH_CONDITIONAL) _ _ (isnt insts place op.BRANCH_CONDITIONAL n.branch is)
+    ∙ left_out (inst.op == op.SWITCH) _ _ (isnt insts place op.SWITCH n.switch is)
+    ∙ taken (is_scalar inst.op) _ _ is
     ) ∙ sym (f.is.found place low high) ∙ s.stays place
 
 not_folded : (scalar : Scalar) → fate.Folds scalar ≡ fate.Stays → ⊥

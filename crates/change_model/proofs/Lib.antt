@@ -224,3 +224,4 @@ pub mod ConstantChoices
 pub mod PlanChanges
 pub mod SpecializedLeft
 pub mod ConstantsSpecialized
+pub mod Rounds

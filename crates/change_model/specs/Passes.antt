@@ -189,9 +189,9 @@ abbrev pub fate_alive : List Interval → List Inst → List ℕ → Plan → �
 fate_alive intervals insts zeros plan place =
     if (inst_at insts place).op == op.PHI then phi_fate intervals insts plan place
     else if (inst_at insts place).op == op.LOAD then
-        (if is_zero_input insts zeros (root_of insts (word_at 2 (inst_at insts place))) then Nulls else Stays)
+    (if is_zero_input insts zeros (root_of insts (word_at 2 (inst_at insts place))) then Nulls else Stays)
     else if (inst_at insts place).op == op.ACCESS_CHAIN then
-        (if is_zero_input insts zeros (word_at 2 (inst_at insts place)) then Unused else Stays)
+    (if is_zero_input insts zeros (word_at 2 (inst_at insts place)) then Unused else Stays)
     else if (inst_at insts place).op == op.SELECTION_MERGE then merge_fate intervals insts plan place
     else if (inst_at insts place).op == op.LOOP_MERGE then (if opens insts place then Skips else Stays)
     else if (inst_at insts place).op == op.BRANCH_CONDITIONAL then branch_fate intervals insts plan place
