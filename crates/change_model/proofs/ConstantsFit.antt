@@ -13,6 +13,8 @@ use Rattle.spirv_model.specs.declared.op.TheConstants as op
 use Rattle.spirv_model.specs.Operands.{word_at, words_from, entry_of, class_of, kinds, ids}
 use Rattle.state_model.specs.declared.parts.SpecValues.{SpecValues}
 use Rattle.valid_model.specs.declared.meaning.Meaning.{Meaning}
+use Rattle.scalar_model.specs.declared.scalar_value.Scalar.{Scalar as OneScalar}
+use Rattle.scalar_model.specs.declared.scalar_value.Scalar.TheVariants.{Bool as TruthOf, Word as WordOf}
 use Rattle.valid_model.specs.Definitions.{inst_at, id_out_of_bound}
 use Rattle.valid_model.specs.Knowledge.{Knowledge, constant_type, is_bool, is_constant_of, is_integer, meaning_in}
 use Rattle.valid_model.specs.Operations.{unary_fits, binary_fits, is_select, operation_fits}
@@ -21,7 +23,7 @@ use Rattle.valid_model.specs.Meanings.{is_constant, known_before}
 use Rattle.check_model.specs.Validity.{IsValidList}
 use Rattle.stage_model.specs.Value.{Value, Truth, Word, Composite, Pointer, Outside}
 use Rattle.stage_model.specs.Program.{Program, program_of}
-use Rattle.stage_model.specs.Start.{Values, constant_of, defined_by}
+use Rattle.stage_model.specs.Start.{Values, of_scalar, constant_of, defined_by}
 use Rattle.typed_model.specs.Modules.{IsFront}
 use Rattle.typed_model.specs.Types.{HasTypes, HasTypedResult}
 use Rattle.typed_model.proofs.BlockParts.{clash}
@@ -354,3 +356,31 @@ value_fits_there words v entries k within good is =
     let r = constant_value q entries known values types before inst one (s.shaped k within) fits in
     subst (FitsType (meaning_in (known (word_at 0 inst)))) (sym (value_at_end q entries words v.sound k within (own_result inst is)))
     (value_fits q known values types before (word_at 0 inst) (constant_of q entries values inst.op inst.words) (scalar_type known inst is fits) r)
+
+-- ---- a scalar stands for each of them
+
+value_scalar : (program : Program) (known : Knowledge) (values : Values) → HasTypes program → Before program known values → (type : ℕ) (found : Option Value) → IsScalarType (meaning_in (known type))
+    → HasTypedResult program type found → (scalar : OneScalar) × (found ≡ Some (of_scalar scalar))
+unfolding IsScalarType
+value_scalar program known values types before type found (inl truths) r =
+    let v = truth_of r.value (type_has_layout program types type r.value _ (bool_layout program known values types before type truths) r.has) in
+    (TruthOf v.0, r.is ∙ ap (λ (v : Value). Some v) v.1)
+value_scalar program known values types before type found (inr integers) r =
+    let v = word_of r.value (type_has_layout program types type r.value _ (integer_layout program known values types before type integers) r.has) in
+    (WordOf v.0, r.is ∙ ap (λ (v : Value). Some v) v.1)
+
+pub scalar_there : (words : Words) (v : IsValidList words) (entries : SpecValues) (k : ℕ) → k < length words.insts → breaks_constants (known_before words.insts k) (inst_at words.insts k) ≡ false → is_spec_scalar (inst_at words.insts k).op ≡ true
+    → (scalar : OneScalar) × (defined_by (program_of words.insts) entries words.insts (word_at 1 (inst_at words.insts k)) ≡ Some (of_scalar scalar))
+scalar_there words v entries k within good is =
+    let insts = words.insts in let q = program_of insts in
+    let inst = inst_at insts k in
+    let known = known_before insts k in
+    let values = defined_by q entries (take k insts) in
+    let types = valid_types words v.sound in
+    let s = valid_sound words v in
+    let before = before_of insts k values (module_typed words entries [] s k (front_before words v k (level_before words v k within is))) in
+    let one = is_one inst.op is in
+    let fits = fits_then (is_constant inst.op) (constant_fits known inst) one good in
+    let r = constant_value q entries known values types before inst one (s.shaped k within) fits in
+    let found = value_scalar q known values types before (word_at 0 inst) (constant_of q entries values inst.op inst.words) (scalar_type known inst is fits) r in
+    (found.0, value_at_end q entries words v.sound k within (own_result inst is) ∙ found.1)

@@ -222,3 +222,6 @@ pub mod ChangedVisible
 pub mod FoundReduced
 pub mod ConstantChoices
 pub mod PlanChanges
+pub mod SpecializedLeft
+pub mod ConstantsSpecialized
+pub mod Rounds

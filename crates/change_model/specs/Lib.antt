@@ -7,3 +7,4 @@ pub mod PlanRules
 pub mod Plans
 pub mod Programs
 pub mod Settling
+pub mod Specialised
