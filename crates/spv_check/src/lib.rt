@@ -26,3 +26,4 @@ pub use check_model::{CheckFault, Stage};
 pub use checks::{check, check_list};
 pub use copy::valid_module;
 pub use module::Module;
+pub use sequence_limits::limits_of;

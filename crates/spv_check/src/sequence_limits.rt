@@ -1,3 +1,4 @@
+//! How far down what a block defines is visible (SPIR-V specification, section 2.16 "Validation Rules").
 ghost use Rattle.std.specs.Prelude.{◌≡◌, ◌<◌, ◌^◌, ◌++◌, length, replicate, IfOk, OnOk};
 ghost use Rattle.spv_tree.specs.Trees.{IsTreeOf};
 ghost use Rattle.spv_check.specs.SequenceLimits.{AreLimits, node_mark, run_front, run_end, choice_limits, pick_limits, round_limits, run_limits, way_limits};
