@@ -45,6 +45,8 @@ pub mod GivenResults
 pub mod KindsByLength
 pub mod KnownResults
 pub mod KnownRuns
+pub mod KnownSooner
+pub mod SoonerUses
 pub mod LaterIntervals
 pub mod LevelFinds
 pub mod MovedUp
@@ -220,6 +222,7 @@ pub mod UsedLeft
 pub mod ChangedPhis
 pub mod ChangedVisible
 pub mod FoundReduced
+pub mod FoundSooner
 pub mod ConstantChoices
 pub mod PlanChanges
 pub mod SpecializedLeft
