@@ -1,5 +1,5 @@
-mod BlockEnds
-mod Fronts
+pub mod BlockEnds
+pub mod Fronts
 mod KeptInsts
 mod KeptWords
-mod Pairs
+pub mod Pairs

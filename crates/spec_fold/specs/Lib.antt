@@ -1,0 +1,5 @@
+pub mod Sets
+pub mod Loops
+pub mod Facts
+pub mod Walks
+pub mod PhiPairs
