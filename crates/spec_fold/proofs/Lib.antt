@@ -1,0 +1,4 @@
+pub mod Places
+pub mod Decisions
+pub mod Bounds
+pub mod LonePairs

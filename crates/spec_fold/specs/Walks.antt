@@ -1,11 +1,11 @@
 -- How far a pass has come.
-use Rattle.std.specs.Prelude.{◌≡◌, ℕ, suc, ◌+◌, ◌-◌, ◌<◌, ◌≤◌, ◌==◌, ◌⊎◌, ◌&&◌, ◌||◌, Bool, true, false, not, if◌then◌else◌, length, List, [], ◌∷◌, ◌++◌, Option, None, Some}
+use Rattle.std.specs.Prelude.{◌≡◌, ℕ, suc, ◌+◌, ◌-◌, ◌<◌, ◌≤◌, ◌==◌, ◌⊎◌, ◌&&◌, ◌||◌, Bool, true, false, not, if◌then◌else◌, length, map, List, [], ◌∷◌, ◌++◌, Option, None, Some}
 use Rattle.std.specs.List.{list_any, range_with_len}
 use Rattle.spirv_model.specs.declared.module.Inst.{Inst}
 use Rattle.spirv_model.specs.declared.module.Words.{Words}
 use Rattle.spirv_model.specs.declared.op.TheConstants.{SELECTION_MERGE}
 use Rattle.spirv_model.specs.Operands.{class_of, word_at}
-use Rattle.body_model.specs.Switches.{is_among}
+use Rattle.body_model.specs.Switches.{Case, cases_in, is_among}
 use Rattle.valid_model.specs.Definitions.{inst_at}
 use Rattle.check_model.specs.Intervals.{intervals_of}
 use Rattle.check_model.specs.Validity.{IsValidList}
@@ -33,6 +33,10 @@ names_with fate inst label = is_among label (targets_left fate inst) || (stays f
 -- an OpSelectionMerge with this fate stays and has this merge block
 abbrev pub merges_with : Fate → Inst → ℕ → Bool
 merges_with fate inst label = stays fate && (inst.op == SELECTION_MERGE) && (word_at 0 inst == label)
+
+-- the targets among literals and targets by turns
+abbrev pub case_targets : List ℕ → List ℕ
+case_targets words = map (λ (case : Case). case.target) (cases_in words)
 
 -- ---- single instructions
 

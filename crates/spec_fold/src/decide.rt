@@ -22,7 +22,6 @@ use spv_rewrite::inst_at;
 use spv_words::class_of;
 
 /// What becomes of the instruction at a place: all stays outside of the function's blocks.
-#[tactic(auto, unfolding(change_model::specs::Passes::fate_found))]
 pub fn fate_found(facts: &Facts<'_>, walk: &Walk, place: usize) -> Fate
     requires facts { AreFacts facts.now }
     requires walk { IsWalk facts.now place walk.now }
@@ -38,7 +37,21 @@ pub fn fate_found(facts: &Facts<'_>, walk: &Walk, place: usize) -> Fate
     if place <= facts.function || place + 1 >= insts.len() {
         return Fate::Stays;
     }
-    let inst = inst_at(insts, place);
+    fate_inside(facts, walk, place)
+}
+
+/// What becomes of an instruction of the function's blocks.
+#[tactic(auto, unfolding(change_model::specs::Passes::fate_found))]
+fn fate_inside(facts: &Facts<'_>, walk: &Walk, place: usize) -> Fate
+    requires facts { AreFacts facts.now }
+    requires walk { IsWalk facts.now place walk.now }
+    requires within { place + 1 < length facts.now.of.now.insts }
+    requires behind { facts.now.function < place }
+    ensures { (v : IsValidList facts.now.of.now)
+        → result ≡ passes.fate_found (intervals_of v.derivation) facts.now.of.now.insts facts.now.zeros.now
+        (facts.now.function + 1) (plan_in walk.now) place }
+{
+    let inst = inst_at(facts.of.insts(), place);
     if inst.op == op::LABEL {
         return label_fate(facts, walk, place);
     }
@@ -53,10 +66,11 @@ fn label_fate(facts: &Facts<'_>, walk: &Walk, place: usize) -> Fate
     requires facts { AreFacts facts.now }
     requires walk { IsWalk facts.now place walk.now }
     requires within { place < length facts.now.of.now.insts }
+    requires behind { facts.now.function < place }
     ensures { result ≡ passes.label_fate (plan_in walk.now) facts.now.of.now.insts (facts.now.function + 1) place }
 {
     let inst = inst_at(facts.of.insts(), place);
-    if place == facts.function + 1 || walk.named.has(inst.word(0)) {
+    if place - 1 == facts.function || walk.named.has(inst.word(0)) {
         Fate::Stays
     } else {
         Fate::Dead

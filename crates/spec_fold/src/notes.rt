@@ -1,11 +1,10 @@
 //! The labels that instructions name.
-ghost use Rattle.std.specs.Prelude.{◌≡◌, map, OnOk};
-ghost use Rattle.body_model.specs.Switches.{cases_in, is_among};
-ghost use Rattle.body_model.specs.Switches as switches;
+ghost use Rattle.std.specs.Prelude.{OnOk};
+ghost use Rattle.body_model.specs.Switches.{is_among};
 ghost use Rattle.body_model.specs.Targets.{targets};
 ghost use Rattle.change_model.specs.PlanRules.{merge_labels};
 ghost use Rattle.spec_fold.specs.Sets.{AddsThose};
-ghost use Rattle.spec_fold.specs.Walks.{merges_with, names_with};
+ghost use Rattle.spec_fold.specs.Walks.{case_targets, merges_with, names_with};
 
 use crate::marks::Marks;
 use change_model::Fate;
@@ -47,8 +46,7 @@ fn note_targets(named: &mut Marks, inst: &Inst) -> Result<(), AllocError>
 }
 
 fn note_cases(named: &mut Marks, cases: &[u32]) -> Result<(), AllocError>
-    ensures { OnOk result (AddsThose (λ label. is_among label
-        (map (λ (case : switches.Case). case.target) (cases_in cases.now))) named.old named.new) }
+    ensures { OnOk result (AddsThose (λ label. is_among label (case_targets cases.now)) named.old named.new) }
 {
     let mut rest = cases;
     while let [_, target, after @ ..] = rest {

@@ -1,15 +1,16 @@
 //! Phis, and the pairs of them that are left (SPIR-V specification, OpPhi).
 ghost use Rattle.std.specs.Prelude.{◌≡◌, ℕ, ◌+◌, ◌<◌, [], ◌∷◌, length};
-ghost use Rattle.std.specs.List.{range_with_len};
 ghost use Rattle.spirv_model.specs.declared.op.TheConstants as opcode;
 ghost use Rattle.id_table.specs.Tables.{at};
 ghost use Rattle.valid_model.specs.Definitions as definitions;
 ghost use Rattle.check_model.specs.Intervals.{intervals_of};
 ghost use Rattle.check_model.specs.Validity.{IsValidList};
+ghost use Rattle.check_model.specs.Visibility.{incoming};
 ghost use Rattle.change_model.specs.Passes as passes;
 ghost use Rattle.change_model.specs.PlanRules as rules;
 ghost use Rattle.spec_fold.specs.Facts.{AreFacts};
-ghost use Rattle.spec_fold.specs.PhiPairs.{lone_value, still_leads_from};
+ghost use Rattle.spec_fold.specs.PhiPairs.{left_with, lone_value, one_more, pairs_there, still_leads_from};
+ghost use Rattle.spec_fold.specs.declared.phis.Left.TheVariants.{Nothing};
 ghost use Rattle.spec_fold.specs.Walks.{IsWalk, plan_in};
 
 use crate::facts::Facts;
@@ -18,6 +19,15 @@ use crate::walk::Walk;
 use change_model::Fate;
 use spv_rewrite::{inst_at, still_leads};
 use valid_model::Meaning;
+
+/// The pairs of a phi that are left, as far as it matters.
+#[derive(Clone, Copy, Drop)]
+pub enum Left {
+    Nothing,
+    /// One, with this value.
+    One(u32),
+    Several,
+}
 
 /// What becomes of a phi to whose block control comes.
 pub fn phi_fate(facts: &Facts<'_>, walk: &Walk, place: usize) -> Fate
@@ -91,19 +101,37 @@ pub fn lone_value(facts: &Facts<'_>, walk: &Walk, place: usize) -> Option<u32>
     requires phi { (definitions.inst_at facts.now.of.now.insts place).op ≡ opcode.PHI }
     ensures { result ≡ lone_value (passes.pairs_found (plan_in walk.now) facts.now.of.now.insts place) }
 {
+    match pairs_left(facts, walk, place) {
+        Left::One(value) => Some(value),
+        _ => None,
+    }
+}
+
+/// The pairs of the phi at a place that are left.
+fn pairs_left(facts: &Facts<'_>, walk: &Walk, place: usize) -> Left
+    requires { place < length facts.now.of.now.insts }
+    ensures { result ≡ left_with Nothing (pairs_there facts.now walk.now place
+        (incoming (definitions.inst_at facts.now.of.now.insts place))) }
+{
     let inst = inst_at(facts.of.insts(), place);
     let mut rest = inst.words_from(2);
-    let mut found = None;
+    let mut left = Left::Nothing;
     while let [value, block, after @ ..] = rest {
         if is_left(facts, walk, place, *block) {
-            if found.is_some() {
-                return None;
-            }
-            found = Some(*value);
+            left = one_more(left, *value);
         }
         rest = after;
     }
-    found
+    left
+}
+
+fn one_more(left: Left, value: u32) -> Left
+    ensures { result ≡ one_more left value }
+{
+    match left {
+        Left::Nothing => Left::One(value),
+        _ => Left::Several,
+    }
 }
 
 /// Whether a block ends before a place and still leads to that place's block.
