@@ -1,0 +1,2 @@
+mod LoopSets
+mod Switched
