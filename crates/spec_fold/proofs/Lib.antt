@@ -1,4 +1,2 @@
-pub mod Places
-pub mod Decisions
-pub mod Bounds
-pub mod LonePairs
+mod LoopSets
+mod Switched

@@ -76,13 +76,11 @@ pub fn chosen_target(known: Option<Scalar>, inst: &Inst) -> Option<u32>
 pub fn switched_target(known: Option<Scalar>, inst: &Inst) -> Option<u32>
     ensures { result ≡ rules.switched_target known inst.now }
 {
-    match known {
-        Some(Scalar::Word(selector)) => {
-            let target = target_for(selector, inst.word(1), inst.words_from(2));
-            Some(target)
-        }
-        _ => None,
-    }
+    let Scalar::Word(selector) = known? else {
+        return None;
+    };
+    let target = target_for(selector, inst.word(1), inst.words_from(2));
+    Some(target)
 }
 
 /// The target of the literal that equals the selector, among literals and targets by turns; else the default.

@@ -1,10 +1,9 @@
-use Rattle.std.proofs.Common.{◌≡◌, ap, ◌∙◌, Some}
-use Rattle.scalar_model.specs.declared.scalar_value.Scalar.TheVariants.{Word as WordOf}
-use Rattle.spec_fold.proofs.Decisions.{switched}
+use Rattle.std.proofs.Common.{◌∙◌, ap, Option, Some}
+use Rattle.scalar_model.specs.declared.scalar_value.Scalar.{Scalar}
+use Rattle.spec_fold.proofs.Switched.{switched}
 use Rattle.spec_fold.proofs.scalars.switched_target.Goals as goal
 
-pub returns-in-Some-Word : goal.returns-in-Some-Word
-returns-in-Some-Word c =
-    let is : c.in-Some-Word.field-0 ≡ WordOf c.in-Some-Word.selector = c.in-Some-Word.field-0-is in
-    switched c.args.known c.args.inst.now c.in-Some-Word.selector c.target_for-target.result c.word.result c.words_from.result.now
-    (c.in-Some-Word.is ∙ ap Some is) c.target_for-target.ensures c.word.ensures c.words_from.ensures
+pub returns : goal.returns
+returns c =
+    switched c.args.known c.in-Word.selector c.target_for-target.result c.word.result c.words_from.result.now c.args.inst.now
+    (c.in_ok-selector.was ∙ ap (λ (s : Scalar). Some s) c.in-Word.is) c.target_for-target.ensures c.word.ensures c.words_from.ensures
