@@ -11,12 +11,11 @@ use Rattle.valid_model.specs.Definitions.{inst_at}
 use Rattle.valid_model.specs.Meanings.{meaning}
 use Rattle.check_model.specs.Intervals.{Interval}
 use Rattle.check_model.specs.Visibility.{Incoming}
-use Rattle.stage_model.specs.Effect.{target_for}
 use Rattle.change_model.specs.declared.fate.Fate.{Fate}
 use Rattle.change_model.specs.declared.fate.Fate.TheVariants.{Nulls, Stays, Skips, Unused}
 use Rattle.change_model.specs.Folding.{all_constants}
 use Rattle.change_model.specs.Plans.{Plan, block_at}
-use Rattle.change_model.specs.PlanRules.{is_nothing, is_shape, is_zero_input, root_of, switched_target}
+use Rattle.change_model.specs.PlanRules.{is_nothing, is_shape, is_zero_input, root_of}
 use Rattle.change_model.specs.Passes.{branch_fate, fate_alive, held_at, heads_loop, is_left_loop, merge_fate, operation_fate, pairs_found, phi_fate, phi_fate_of, skips_to, switch_fate, way_behind}
 use Rattle.unit_model.specs.ConstantScalars.{is_scalar_class}
 use Rattle.spec_fold.specs.PhiPairs.{left_with, lone_value}
@@ -24,11 +23,6 @@ use Rattle.spec_fold.specs.declared.phis.Left.{Left}
 use Rattle.spec_fold.specs.declared.phis.Left.TheVariants.{Nothing, One, Several}
 
 -- ---- selections and OpSwitches
-
-pub switched : (known : Option Scalar) (inst : Inst) (selector target default : ℕ) (cases : List ℕ) → known ≡ Some (WordOf selector) → target ≡ target_for selector default cases
-    → default ≡ word_at 1 inst → cases ≡ words_from 2 inst → Some target ≡ switched_target known inst
-switched known inst selector target default cases is found first rest =
-    ap Some (found ∙ ap (λ (d : ℕ). target_for selector d cases) first ∙ ap (target_for selector (word_at 1 inst)) rest) ∙ ap (λ (k : Option Scalar). switched_target k inst) (sym is)
 
 pub merge_skips : (intervals : List Interval) (insts : List Inst) (plan : Plan) (place label : ℕ) (held way : Option ℕ) → held ≡ held_at insts place → is_some held ≡ false
     → way ≡ way_behind intervals insts plan (place + 1) → way ≡ Some label → Skips ≡ merge_fate intervals insts plan place
@@ -77,6 +71,15 @@ pub left_lone : (pairs : List Incoming) → value_of (left_with Nothing pairs) �
 left_lone [] = refl
 left_lone (pair ∷ []) = refl
 left_lone (pair ∷ other ∷ pairs) = ap value_of (several pairs)
+
+-- where it isn't one pair, no value stands for all
+pub not_one : (pairs : List Incoming) (left : Left) → left ≡ left_with Nothing pairs → ((value : ℕ) → left ≡ One value → ⊥) → None ≡ lone_value pairs
+not_one pairs left is isnt = by_left left isnt ∙ ap value_of is ∙ left_lone pairs
+  where
+    by_left : (left : Left) → ((value : ℕ) → left ≡ One value → ⊥) → None ≡ value_of left
+    by_left Nothing isnt = refl
+    by_left (One value) isnt = absurd (isnt value refl)
+    by_left Several isnt = refl
 
 -- ---- operations
 

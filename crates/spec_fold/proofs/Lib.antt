@@ -1,2 +1,9 @@
+mod Places
 mod LoopSets
 mod Switched
+mod Decisions
+mod Bounds
+mod LonePairs
+mod Resolves
+mod Steps
+mod Passed
