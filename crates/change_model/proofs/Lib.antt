@@ -190,6 +190,7 @@ pub mod BlockPieces
 pub mod ConditionNames
 pub mod LoopNames
 pub mod LoopTests
+pub mod BranchEnds
 pub mod FoundLabels
 pub mod FoundHeld
 pub mod FoundConditions
