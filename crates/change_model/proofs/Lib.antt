@@ -191,6 +191,7 @@ pub mod ConditionNames
 pub mod LoopNames
 pub mod LoopTests
 pub mod BranchEnds
+pub mod BlockEntries
 pub mod FoundLabels
 pub mod FoundHeld
 pub mod FoundConditions
