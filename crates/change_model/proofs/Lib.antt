@@ -196,6 +196,7 @@ pub mod PhiEntries
 pub mod FoundLabels
 pub mod FoundHeld
 pub mod FoundConditions
+pub mod FoundDead
 pub mod FoundLoops
 pub mod FoundWithin
 pub mod FoundFits
