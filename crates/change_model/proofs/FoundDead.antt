@@ -26,7 +26,7 @@ use Rattle.change_model.proofs.BranchEnds.{NoneLeads, at_end}
 use Rattle.change_model.proofs.ConditionNames.{loop_place, target_names}
 use Rattle.change_model.proofs.FoundConditions.{test_goes}
 use Rattle.change_model.proofs.FoundGoes.{still_leads, still_named, dead_names}
-use Rattle.change_model.proofs.FoundHeld.{loop_within, loop_at, leaves_test, left_there, opened_left}
+use Rattle.change_model.proofs.FoundHeld.{loop_within, leaves_test, left_there, opened_left}
 use Rattle.change_model.proofs.FoundLabels.{unnamed_dead, all_dead}
 use Rattle.change_model.proofs.FoundOrigins.{dead_fate, alive_fate, alive_loop}
 use Rattle.change_model.proofs.FoundPlans.{Found}
@@ -42,7 +42,7 @@ use Rattle.change_model.proofs.LeftScopes.{is_label_at, label_at, names, StandsN
 use Rattle.change_model.proofs.LeftSelections.{block_selection}
 use Rattle.change_model.proofs.LeftTargets.{Stands, due_stands}
 use Rattle.change_model.proofs.LoopNames.{LoopAt}
-use Rattle.change_model.proofs.LoopTests.{header_before, condition_at, past_test, past_body, past_step, past_rest, merge_is}
+use Rattle.change_model.proofs.LoopTests.{header_before, condition_at, past_test, past_body, past_step, past_rest, merge_op, merge_is}
 
 clash : {Q : Type 0} (b : Bool) → b ≡ true → b ≡ false → Q
 clash true is isnt = cc
@@ -84,15 +84,15 @@ goes_label plan insts label to place is leads = by_test (to == label) refl (sym 
     by_test true same some = eqb-true to label same
     by_test false differ some = cc
 
-module _ (f : Found) (place : ℕ) (is : (inst_at f.words.insts place).op ≡ op.LOOP_MERGE) (opened : opens f.words.insts place ≡ true) (alive : is_dead (f.plan.fate place) ≡ false) where
+module _ (f : Found) (place : ℕ) (l : LoopAt f.words.insts f.valid.derivation place) (opened : opens f.words.insts place ≡ true) (alive : is_dead (f.plan.fate place) ≡ false) where
   abbrev insts : List Inst
   insts = f.words.insts
 
   abbrev d : Derives f.words.insts
   d = f.valid.derivation
 
-  abbrev l : LoopAt insts d place
-  l = loop_at f place is
+  is : (inst_at insts place).op ≡ op.LOOP_MERGE
+  is = merge_op insts (labels_once f.words f.valid) d place l
 
   abbrev merge : ℕ
   merge = word_at 0 (inst_at insts place)

@@ -197,6 +197,8 @@ pub mod FoundLabels
 pub mod FoundHeld
 pub mod FoundConditions
 pub mod FoundDead
+pub mod FoundPhis
+pub mod FoundBack
 pub mod FoundLoops
 pub mod FoundWithin
 pub mod FoundFits
