@@ -227,6 +227,8 @@ pub mod TypesNamed
 pub mod UsedLeft
 pub mod ChangedPhis
 pub mod ChangedVisible
+pub mod FoundPairs
+pub mod FoundOnly
 pub mod FoundReduced
 pub mod FoundSooner
 pub mod ConstantChoices
