@@ -192,6 +192,7 @@ pub mod LoopNames
 pub mod LoopTests
 pub mod BranchEnds
 pub mod BlockEntries
+pub mod ArmEntries
 pub mod PhiEntries
 pub mod FoundLabels
 pub mod FoundHeld
