@@ -228,6 +228,7 @@ pub mod TypesNamed
 pub mod UsedLeft
 pub mod ChangedPhis
 pub mod ChangedVisible
+pub mod FoundMerges
 pub mod FoundPairs
 pub mod FoundOnly
 pub mod FoundReduced
