@@ -229,6 +229,7 @@ pub mod UsedLeft
 pub mod ChangedPhis
 pub mod ChangedVisible
 pub mod FoundMerges
+pub mod FoundSelections
 pub mod FoundPairs
 pub mod FoundOnly
 pub mod FoundReduced
