@@ -218,9 +218,13 @@ pub mod PhiPairsLeft
 pub mod NamesStand
 pub mod NamesSeen
 pub mod TypesNamed
+pub mod TakenOperands
+pub mod TakenParts
+pub mod TakenUses
 pub mod UsedLeft
 pub mod ChangedPhis
 pub mod ChangedVisible
+pub mod FoundNames
 pub mod FoundReduced
 pub mod FoundSooner
 pub mod ConstantChoices
