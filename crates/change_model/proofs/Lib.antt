@@ -225,6 +225,7 @@ pub mod UsedLeft
 pub mod ChangedPhis
 pub mod ChangedVisible
 pub mod FoundNames
+pub mod FoundUses
 pub mod FoundReduced
 pub mod FoundSooner
 pub mod ConstantChoices
