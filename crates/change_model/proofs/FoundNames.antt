@@ -236,7 +236,7 @@ pair_fits f place high is pair has =
     shut false is = refl
     shut true is = cc
 
-taken_by : (m : Meaning) → is_shape m ≡ true → is_pointer m ≡ false → is_taken_type m ≡ true
+pub taken_by : (m : Meaning) → is_shape m ≡ true → is_pointer m ≡ false → is_taken_type m ≡ true
 taken_by m shape pointer = rw shape (rw pointer refl)
 
 -- an id of a type that is no pointer

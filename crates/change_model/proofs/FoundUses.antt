@@ -40,12 +40,12 @@ use Rattle.change_model.proofs.UsedLeft.{kinds_same, choice_word}
 -- ---- uses under other names
 
 -- an id that is used, by itself or under its other name
-record IsUsedAs (name : ℕ → ℕ) (used : List ℕ) (id : ℕ) : Type 0 where
-  from : ℕ
-  among : is_among from used ≡ true
-  named : (from ≡ id) ⊎ (name from ≡ id)
+pub record IsUsedAs (name : ℕ → ℕ) (used : List ℕ) (id : ℕ) : Type 0 where
+  pub from : ℕ
+  pub among : is_among from used ≡ true
+  pub named : (from ≡ id) ⊎ (name from ≡ id)
 
-either : {Q : Type 0} (a b : Bool) → (a || b) ≡ true → (a ≡ true → Q) → (b ≡ true → Q) → Q
+pub either : {Q : Type 0} (a b : Bool) → (a || b) ≡ true → (a ≡ true → Q) → (b ≡ true → Q) → Q
 either true b is here there = here refl
 either false b is here there = there is
 
@@ -90,7 +90,7 @@ no_setting (Some class.Setting) uses = cc
 no_setting (Some other) uses = refl
 
 -- what an instruction with other names uses
-renamed_as : (name : ℕ → ℕ) (id : ℕ) (inst : Inst) → is_some (kinds inst) ≡ true → is_among id (used_ids (renamed name inst)) ≡ true → IsUsedAs name (used_ids inst) id
+pub renamed_as : (name : ℕ → ℕ) (id : ℕ) (inst : Inst) → is_some (kinds inst) ≡ true → is_among id (used_ids (renamed name inst)) ≡ true → IsUsedAs name (used_ids inst) id
 unfolding used_ids
 renamed_as name id inst has is =
     by_tests (uses_operands (class_of inst.op)) (is_choice inst.op)
@@ -108,15 +108,15 @@ renamed_as name id inst has is =
 -- ---- values of phis
 
 -- a pair whose value has the name
-record IsPairOf (name : ℕ → ℕ) (pairs : List Incoming) (id : ℕ) : Type 0 where
-  pair : Incoming
-  has : In pair pairs
-  named : name pair.value ≡ id
+pub record IsPairOf (name : ℕ → ℕ) (pairs : List Incoming) (id : ℕ) : Type 0 where
+  pub pair : Incoming
+  pub has : In pair pairs
+  pub named : name pair.value ≡ id
 
-abbrev comes_from : ℕ → List Incoming → Bool
+abbrev pub comes_from : ℕ → List Incoming → Bool
 comes_from id pairs = list_any (λ (pair : Incoming). pair.value == id) pairs
 
-pair_of : (name : ℕ → ℕ) (id : ℕ) (blocks words : List ℕ) → comes_from id (incoming_in (pairs_left name blocks words)) ≡ true → IsPairOf name (incoming_in words) id
+pub pair_of : (name : ℕ → ℕ) (id : ℕ) (blocks words : List ℕ) → comes_from id (incoming_in (pairs_left name blocks words)) ≡ true → IsPairOf name (incoming_in words) id
 pair_of name id blocks [] is = cc
 pair_of name id blocks (value ∷ []) is = cc
 pair_of name id blocks (value ∷ block ∷ words) is = by_test (is_among block blocks) is (λ rest. pair_of name id blocks words rest)
@@ -149,6 +149,14 @@ phi_inside = record { no_level = refl; no_function = refl; no_end = refl; no_not
 pub load_inside : StandsInside op.LOAD
 unfolding class_of entry_of
 load_inside = record { no_level = refl; no_function = refl; no_end = refl; no_nothing = refl }
+
+pub store_inside : StandsInside op.STORE
+unfolding class_of entry_of
+store_inside = record { no_level = refl; no_function = refl; no_end = refl; no_nothing = refl }
+
+pub switch_inside : StandsInside op.SWITCH
+unfolding class_of entry_of
+switch_inside = record { no_level = refl; no_function = refl; no_end = refl; no_nothing = refl }
 
 pub stands_inside : (words : Words) (v : IsValidList words) (place opcode : ℕ) → StandsInside opcode → (inst_at words.insts place).op ≡ opcode → (v.derivation.before < place) × (place < v.derivation.after)
 stands_inside words v place opcode s is = (

@@ -226,6 +226,7 @@ pub mod ChangedPhis
 pub mod ChangedVisible
 pub mod FoundNames
 pub mod FoundUses
+pub mod FoundUnused
 pub mod FoundReduced
 pub mod FoundSooner
 pub mod ConstantChoices
