@@ -190,6 +190,9 @@ pub mod BlockPieces
 pub mod ConditionNames
 pub mod LoopNames
 pub mod LoopTests
+pub mod BranchEnds
+pub mod BlockEntries
+pub mod PhiEntries
 pub mod FoundLabels
 pub mod FoundHeld
 pub mod FoundConditions
