@@ -230,6 +230,7 @@ pub mod ChangedVisible
 pub mod FoundNames
 pub mod FoundUses
 pub mod FoundUnused
+pub mod FoundCrossings
 pub mod FoundReduced
 pub mod FoundSooner
 pub mod ConstantChoices

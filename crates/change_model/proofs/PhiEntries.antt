@@ -103,7 +103,7 @@ module _ (insts : List Inst) (scope : Scope) (from : ℕ) (end : BlockEnd) (o : 
       ]
     ]
 
-    somewhere : scope.phis ≡ Nowhere → ⊥
+    pub somewhere : scope.phis ≡ Nowhere → ⊥
     somewhere none =
         let e = o.place_is in
         let l = behind_label in
@@ -145,7 +145,7 @@ module _ (insts : List Inst) (once : LabelsOnce insts) (d : Derives insts) where
       }
 
   -- a block whose last part doesn't merge the label doesn't name it by a merge instruction
-  unmerged_by : (scope : Scope) (wanted : Option ℕ) (from : ℕ) (end : BlockEnd) → IsDue insts wanted from → block_end insts scope from ≡ end → IsWhole end → (label : ℕ) → (SelectsTo end label → ⊥) → (HasLoop end → ⊥)
+  pub unmerged_by : (scope : Scope) (wanted : Option ℕ) (from : ℕ) (end : BlockEnd) → IsDue insts wanted from → block_end insts scope from ≡ end → IsWhole end → (label : ℕ) → (SelectsTo end label → ⊥) → (HasLoop end → ⊥)
       → (place : ℕ) → from ≤ place → place < after_of end → is_among label (merge_labels (inst_at insts place)) ≡ true → ⊥
   unmerged_by scope wanted from end here is whole label unselected none place low high among =
       let o = old_block insts scope wanted from end here is whole in
