@@ -15,7 +15,7 @@ use Rattle.unit_model.specs.ConstantScalars.{is_scalar_class, is_behind, begins_
 use Rattle.change_model.specs.declared.fate.Fate.{Fate}
 use Rattle.change_model.specs.declared.fate.Fate.TheVariants as fate
 use Rattle.change_model.specs.Plans.{is_dead, targets_left, leads_from}
-use Rattle.change_model.specs.PlanRules.{merge_labels, stays, goes, still_names, is_arm_of, is_condition_left, is_joined, remains}
+use Rattle.change_model.specs.PlanRules.{merge_labels, stays, goes, still_names, goes_to_begin, is_arm_of, is_condition_left, is_joined, remains}
 use Rattle.change_model.specs.Passes.{keeps_merge, way_behind}
 use Rattle.change_model.proofs.BlockEntries.{Begins}
 use Rattle.change_model.proofs.FoundFits.{behind_selection, branch_goes}
@@ -48,6 +48,16 @@ pub record Into (f : Found) (place end : ℕ) : Type 0 where
 
 other_op : {Q : Type 0} (opcode known other : ℕ) → opcode ≡ known → opcode ≡ other → known == other ≡ false → Q
 other_op opcode known other is same differ = clash (known == other) (eq-eqb known other (sym is ∙ same)) differ
+
+-- some place of a range passes the test
+place_within : (test : ℕ → Bool) (n from : ℕ) → list_any test (range_with_len from n) ≡ true → (at : ℕ) × (from ≤ at) × (at < from + n) × (test at ≡ true)
+place_within test zero from some = cc
+place_within test (suc n) from some = by_first (test from) refl (λ later. place_within test n (from + 1) later) some
+  where
+    by_first : (b : Bool) → test from ≡ b → (list_any test (range_with_len (from + 1) n) ≡ true → (at : ℕ) × (from + 1 ≤ at) × (at < from + 1 + n) × (test at ≡ true)) → (b || list_any test (range_with_len (from + 1) n)) ≡ true
+        → (at : ℕ) × (from ≤ at) × (at < from + suc n) × (test at ≡ true)
+    by_first true is more some = (from, omega arith, omega arith, is)
+    by_first false is more some = let m = more some in let l = m.1 in let h = m.2 in (m.0, omega (arith, l), omega (arith, h), m.3)
 
 module _ (f : Found) (place end : ℕ) (w : Into f place end) where
   abbrev insts : List Inst
@@ -138,3 +148,68 @@ module _ (f : Found) (place end : ℕ) (w : Into f place end) where
           let g = goes_label (f.plan.fate (m + 1))
           (branch_goes f m is low label same (ap (way_behind (intervals_of f.valid.derivation) insts f.plan) {x = m + 1} {y = suc m} (omega arith) ∙ way)) in
           record { skips = same; label = g.0; goes_to = g.1 }
+
+  -- ---- an arm that is left
+
+  one_among : (a label : ℕ) → is_among label (a ∷ []) ≡ true → a ≡ label
+  one_among a label among = by_test (a == label) refl among
+    where
+      by_test : (b : Bool) → a == label ≡ b → (b || false) ≡ true → a ≡ label
+      by_test true is among = eqb-true a label is
+      by_test false is among = cc
+
+  still_parts : (label from : ℕ) → still_names f.plan f.words.insts label from ≡ true → (leads_from f.plan f.words.insts label from ≡ true) ⊎ (is_among label (merge_labels (inst_at f.words.insts from)) ≡ true)
+  still_parts label from named = by_tests (leads_from f.plan insts label from) (stays (f.plan.fate from)) (is_among label (merge_labels (inst_at insts from))) named
+    where
+      by_tests : (a b c : Bool) → (a || (b && c)) ≡ true → (a ≡ true) ⊎ (c ≡ true)
+      by_tests true b c is = inl refl
+      by_tests false true true is = inr refl
+      by_tests false true false is = cc
+      by_tests false false c is = cc
+
+  -- it is joined to what is around
+  arm_joined : (m from to : ℕ) (s : Skipped m) → (inst_at f.words.insts m).op ≡ op.SELECTION_MERGE → m + 1 < from → is_label_at f.words.insts from ≡ true → s.label ≡ label_at f.words.insts from
+      → remains f.plan f.words.insts (interval from to) ≡ false
+  unfolding is_joined
+  arm_joined m from to s is less label same =
+      let i = interval from to in
+      let begins : begins_at insts s.label i ≡ true = and_true (is_label_at insts from) (label_at insts from == s.label) label (eq-eqb (label_at insts from) s.label (sym same)) in
+      let one : is_arm_of f.plan insts i (m + 1) ≡ true =
+      and_true (is_behind op.SELECTION_MERGE insts (m + 1)) _ (behind_selection f m is) (ap (λ (what : Fate). goes_to_begin insts i what) s.goes_to ∙ begins) in
+      gone (is_dead (f.plan.fate from)) (list_any (is_arm_of f.plan insts i) (range_with_len 0 from)) (is_condition_left f.plan insts i) (any_of_range (is_arm_of f.plan insts i) from 0 (m + 1) (omega arith) (omega (arith, less)) one)
+    where
+      and_true : (a b : Bool) → a ≡ true → b ≡ true → (a && b) ≡ true
+      and_true true b is also = also
+      and_true false b is also = cc
+
+      gone : (a b c : Bool) → b ≡ true → (not a && not (b || c)) ≡ false
+      gone true b c is = refl
+      gone false true c is = refl
+      gone false false c is = cc
+
+  pub arm_crossed : (m from to : ℕ) (inner : List Interval) → f.valid.derivation.before < m → m + 1 < from → to ≤ f.valid.derivation.after → m < place → (inst_at f.words.insts m).op ≡ op.SELECTION_MERGE → word_at 0 (inst_at f.words.insts m) ≡ label_at f.words.insts w.at
+      → is_label_at f.words.insts (m + 1) ≡ false → is_label_at f.words.insts from ≡ true → Begins f.words.insts (m + 2) from
+      → ((q at : ℕ) → q < from → from < at → at < to → is_label_at f.words.insts at ≡ true → names f.words.insts q (label_at f.words.insts at) ≡ false) → from ≤ end → end < to
+      → ((s : Skipped m) → s.label ≡ label_at f.words.insts from → Holds inner) → Holds (around from to inner)
+  arm_crossed m from to inner low less high early is own plain label begins entered least past nested =
+      let life = alive_by (is_dead (f.plan.fate from)) refl in
+      let named = (entered_rightly f from (omega (arith, low, less)) (omega (arith, least, past, high)) label).alive life in
+      let q = place_within (still_names f.plan insts (label_at insts from)) from 0 named in
+      by_parts q.0 (omega (arith, q.2)) (still_parts (label_at insts from) q.0 q.3)
+    where
+      alive_by : (b : Bool) → is_dead (f.plan.fate from) ≡ b → is_dead (f.plan.fate from) ≡ false
+      alive_by false alive = alive
+      alive_by true dead = clash (is_dead (f.plan.fate end)) (all_dead f from to (omega (arith, low, less)) high entered dead end least past) end_alive
+
+      by_way : leads_from f.plan f.words.insts (label_at f.words.insts from) (m + 1) ≡ true → Holds (around from to inner)
+      by_way leads =
+          let alive = leads_alive f.plan insts (label_at insts from) (m + 1) leads in
+          let s = skipped m low (omega (arith, less, least, past, high)) early is own plain alive in
+          let same = one_among s.label (label_at insts from) (ap (λ (what : Fate). is_among (label_at insts from) (targets_left what (inst_at insts (m + 1)))) (sym s.goes_to) ∙ leads) in
+          (λ stay _ _. clash (remains f.plan insts (interval from to)) stay (arm_joined m from to s is less label same), nested s same)
+
+      by_parts : (q : ℕ) → q < from → (leads_from f.plan f.words.insts (label_at f.words.insts from) q ≡ true) ⊎ (is_among (label_at f.words.insts from) (merge_labels (inst_at f.words.insts q)) ≡ true) → Holds (around from to inner)
+      by_parts q under (inl leads) =
+          let e = begins.leads q under (still_leads f q (label_at insts from) leads) in
+          by_way (ap (leads_from f.plan insts (label_at insts from)) {x = m + 1} {y = q} (omega (arith, e)) ∙ leads)
+      by_parts q under (inr merges) = absurd (begins.merges q under merges)
