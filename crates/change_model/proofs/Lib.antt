@@ -231,6 +231,7 @@ pub mod FoundNames
 pub mod FoundUses
 pub mod FoundUnused
 pub mod FoundCrossings
+pub mod FoundArms
 pub mod FoundReduced
 pub mod FoundSooner
 pub mod ConstantChoices
