@@ -232,6 +232,7 @@ pub mod FoundUses
 pub mod FoundUnused
 pub mod FoundCrossings
 pub mod FoundArms
+pub mod FoundSwitchArms
 pub mod FoundReduced
 pub mod FoundSooner
 pub mod ConstantChoices
