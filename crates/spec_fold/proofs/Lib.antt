@@ -1,2 +1,3 @@
 mod LoopSets
 mod Switched
+mod Nests
