@@ -191,6 +191,7 @@ pub mod ConditionNames
 pub mod LoopNames
 pub mod LoopTests
 pub mod BranchEnds
+pub mod ArmExits
 pub mod BlockEntries
 pub mod ArmEntries
 pub mod PhiEntries
@@ -230,6 +231,7 @@ pub mod ChangedPhis
 pub mod ChangedVisible
 pub mod FoundMerges
 pub mod FoundSelections
+pub mod FoundSwitches
 pub mod FoundPairs
 pub mod FoundOnly
 pub mod FoundReduced
