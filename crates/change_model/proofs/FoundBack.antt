@@ -65,6 +65,13 @@ module _ (f : Found) (place : ℕ) (l : LoopAt f.words.insts f.valid.derivation 
         ap (λ (n : ℕ). (inst_at insts n).op == op.LABEL) same ∙ ap (λ (o : ℕ). o == op.LABEL) (merge_op insts (labels_once f.words f.valid) f.valid.derivation place l)
   ]
 
+  pub header_own : block_at insts place ≡ label_at insts l.from
+  header_own =
+      let w = within in
+      let h = header_before insts (labels_once f.words f.valid) f.valid.derivation place l in
+      let s = function_within insts f.valid.derivation place w in
+      block_of insts l.from place h (omega (arith, s)) (due_label insts l.wanted l.from l.here) (λ at less more. no_label at less (omega (arith, more)))
+
   -- a loop whose header is that of none that stays is left at once
   leaves_loop : heads_loop insts (label_at insts l.from) ≡ false → opens insts place ≡ true
   unfolding heads_loop
@@ -74,11 +81,7 @@ module _ (f : Found) (place : ℕ) (l : LoopAt f.words.insts f.valid.derivation 
       is = eq-eqb (inst_at insts place).op op.LOOP_MERGE (merge_op insts (labels_once f.words f.valid) f.valid.derivation place l)
 
       own : block_at insts place == label_at insts l.from ≡ true
-      own =
-          let w = within in
-          let h = header_before insts (labels_once f.words f.valid) f.valid.derivation place l in
-          let s = function_within insts f.valid.derivation place w in
-          eq-eqb (block_at insts place) (label_at insts l.from) (block_of insts l.from place h (omega (arith, s)) (due_label insts l.wanted l.from l.here) (λ at less more. no_label at less (omega (arith, more))))
+      own = eq-eqb (block_at insts place) (label_at insts l.from) header_own
 
       all : (a b c : Bool) → a ≡ true → b ≡ true → c ≡ false → (a && b && not c) ≡ true
       all a b c first second third = rw first (rw second (rw third refl))

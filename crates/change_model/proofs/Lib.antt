@@ -232,6 +232,7 @@ pub mod ChangedVisible
 pub mod FoundMerges
 pub mod FoundSelections
 pub mod FoundSwitches
+pub mod FoundEntered
 pub mod FoundPairs
 pub mod FoundOnly
 pub mod FoundReduced
