@@ -80,6 +80,7 @@ module _ (f : Found) (place : ℕ) (low : f.valid.derivation.before < place) (hi
   -- where the block of a pair ends
   pub record PairEnd (pair : Incoming) : Type 0 where
     pub end : ℕ
+    pub within : end < length insts
     pub own : block_at insts end ≡ pair.block
     pub ends : is_terminator (inst_at insts end).op ≡ true
     pub there : block_end_of insts pair.block ≡ Some end
@@ -89,7 +90,7 @@ module _ (f : Found) (place : ℕ) (low : f.valid.derivation.before < place) (hi
   pair_end pair has =
       let n = phi_names f.plan f.words f.valid place pair.block (function_within insts f.valid.derivation place high) is_phi (in_blocks pair pairs has) in
       let i = ends_in_function f.words f.valid.derivation n.end (inst_at insts n.end) (slice_get-get_or insts n.end no_instruction n.within) n.ends in
-      record { end = n.end; own = n.labelled; ends = n.ends; there = block_end_is f.words f.valid n.end pair.block i.0 i.1 n.ends n.labelled; left = n.same }
+      record { end = n.end; within = n.within; own = n.labelled; ends = n.ends; there = block_end_is f.words f.valid n.end pair.block i.0 i.1 n.ends n.labelled; left = n.same }
 
   -- what the pass sees of it
   pub pair_left : (pair : Incoming) (e : PairEnd pair) → is_pair_left f.plan insts place pair ≡ (nat_lt e.end place && leads_from f.plan insts label e.end)

@@ -235,6 +235,7 @@ pub mod FoundSwitches
 pub mod FoundEntered
 pub mod FoundPairs
 pub mod FoundOnly
+pub mod FoundStays
 pub mod FoundReduced
 pub mod FoundSooner
 pub mod ConstantChoices
