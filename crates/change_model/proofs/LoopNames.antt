@@ -230,29 +230,30 @@ module _ (insts : List Inst) (once : LabelsOnce insts) (d : Derives insts) where
         let r = (forward insts step).forward in
         let g = (forward insts rest).forward in
         let h = p.high in
+        let here_at : (n : ℕ) → n ≡ (old_block insts scope wanted from (way.Loops head) here is tt).place → LoopAt insts d n = λ n at. record {
+          scope = scope;
+          wanted = wanted;
+          next = next;
+          from = from;
+          to = to;
+          head = head;
+          inner = inner;
+          first = first;
+          second = second;
+          third = third;
+          here = here;
+          is = is;
+          tested = tested;
+          within = within;
+          step = step;
+          rest = rest;
+          placed = p;
+          at = at;
+        } in
         let merge_exit : (low high label : ℕ) → high ≤ third → label ≡ head.merge → Beyond insts d low high label = λ low high label most same. exit_due low high third label head.merge most (omega (arith, g, h)) same (due_of rest) in
         elim (cases_lt place head.after) [
           | inl early ↦ record {
-            loop = λ merge. record {
-              scope = scope;
-              wanted = wanted;
-              next = next;
-              from = from;
-              to = to;
-              head = head;
-              inner = inner;
-              first = first;
-              second = second;
-              third = third;
-              here = here;
-              is = is;
-              tested = tested;
-              within = within;
-              step = step;
-              rest = rest;
-              placed = p;
-              at = (loop_place insts scope None from 0 (way.Loops head) (old_block insts scope wanted from (way.Loops head) here is tt) tt place low early merge).1;
-            };
+            loop = λ merge. here_at place (loop_place insts scope None from 0 (way.Loops head) (old_block insts scope wanted from (way.Loops head) here is tt) tt place low early merge).1;
             named = λ label named. block_names {Q = λ label. Beyond insts d place (place + 1) label} insts scope wanted from (way.Loops head) here is tt f.within
                 (λ b label among. due_ahead place head.after label head.test early (omega (arith, t, q, r, g, h)) (one_name label head.test _ b.ends.0 among) (due_of tested))
                 (λ label merged. elim merged [
@@ -282,26 +283,7 @@ module _ (insts : List Inst) (once : LabelsOnce insts) (d : Derives insts) where
                         entered = λ place at less behind before label_is. p.entered place at (inl less) behind (omega (arith, before, g)) label_is;
                       };
                       place = (old_block insts scope wanted from (way.Loops head) here is tt).place;
-                      loop = record {
-                        scope = scope;
-                        wanted = wanted;
-                        next = next;
-                        from = from;
-                        to = to;
-                        head = head;
-                        inner = inner;
-                        first = first;
-                        second = second;
-                        third = third;
-                        here = here;
-                        is = is;
-                        tested = tested;
-                        within = within;
-                        step = step;
-                        rest = rest;
-                        placed = p;
-                        at = refl;
-                      };
+                      loop = here_at (old_block insts scope wanted from (way.Loops head) here is tt).place refl;
                       own = refl;
                       step = omega arith;
                       end = refl;
