@@ -1,7 +1,6 @@
 -- To the first blocks of the arms of a selection or an OpSwitch only its branch leads.
-use Rattle.std.proofs.Common.{◌≡◌, ℕ, ◌+◌, ◌<◌, ◌≤◌, inl, inr, true, ◌==◌, List, length, ◌∙◌, sym, arith, Option, None, Some}
+use Rattle.std.proofs.Common.{◌≡◌, ℕ, ◌<◌, ◌≤◌, inl, inr, true, List, length, ◌∙◌, sym, arith, Option, None, Some}
 use Rattle.spirv_model.specs.declared.module.Inst.{Inst}
-use Rattle.spirv_model.specs.Operands.{word_at}
 use Rattle.body_model.specs.declared.block_end.BlockEnd.{BlockEnd}
 use Rattle.body_model.specs.declared.block_end.BlockEnd.TheVariants as way
 use Rattle.body_model.specs.Blocks.{block_end}

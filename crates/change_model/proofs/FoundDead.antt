@@ -10,7 +10,7 @@ use Rattle.body_model.specs.Scope.{condition}
 use Rattle.body_model.specs.Switches.{is_among}
 use Rattle.body_model.specs.Targets.{targets}
 use Rattle.body_model.specs.Grammar.{Derives}
-use Rattle.body_model.proofs.Forward.{sound_at, forward}
+use Rattle.body_model.proofs.Forward.{sound_at}
 use Rattle.valid_model.specs.Definitions.{inst_at}
 use Rattle.check_model.specs.Intervals.{Interval, inside}
 use Rattle.stage_model.proofs.CodeRuns.{due_of, one_name}
@@ -38,9 +38,9 @@ use Rattle.change_model.proofs.LeftPlaced.{due_label}
 use Rattle.change_model.proofs.LeftPlacedLoops as placed_loop
 use Rattle.change_model.proofs.LeftPlacedWhole.{labels_once}
 use Rattle.change_model.proofs.LeftQuiet.{NoWay, Unnamed, unnamed_inside}
-use Rattle.change_model.proofs.LeftScopes.{is_label_at, label_at, names, StandsNot, Placed}
+use Rattle.change_model.proofs.LeftScopes.{is_label_at, label_at, names, StandsNot}
 use Rattle.change_model.proofs.LeftSelections.{block_selection}
-use Rattle.change_model.proofs.LeftTargets.{Stands, due_stands}
+use Rattle.change_model.proofs.LeftTargets.{due_stands}
 use Rattle.change_model.proofs.LoopNames.{LoopAt}
 use Rattle.change_model.proofs.LoopTests.{header_before, condition_at, past_test, past_body, past_step, past_rest, merge_op, merge_is}
 

@@ -1,5 +1,5 @@
 -- Where no merge instruction of a selection stays by which a phi may stay, one instruction before it still leads to its block.
-use Rattle.std.proofs.Common.{◌≡◌, ℕ, ◌+◌, ◌<◌, ◌≤◌, inl, inr, Bool, true, false, ◌==◌, ◌&&◌, List, refl, ap, sym, ◌∙◌, subst, arith}
+use Rattle.std.proofs.Common.{◌≡◌, ℕ, ◌<◌, inl, inr, Bool, true, false, ◌==◌, ◌&&◌, List, ap, sym, ◌∙◌, arith}
 use Rattle.std.proofs.lemmas.Bool.{cases_lt, eq-eqb}
 use Rattle.spirv_model.specs.declared.module.Inst.{Inst}
 use Rattle.spirv_model.specs.declared.op.TheConstants as op
@@ -7,7 +7,6 @@ use Rattle.spirv_model.specs.Operands.{word_at}
 use Rattle.body_model.specs.Switches.{is_among}
 use Rattle.body_model.specs.Targets.{targets}
 use Rattle.valid_model.specs.Definitions.{inst_at}
-use Rattle.change_model.specs.declared.fate.Fate.TheVariants as fate
 use Rattle.change_model.specs.Plans.{is_dead, leads_from, block_at}
 use Rattle.change_model.specs.PlanRules.{merge_labels, stays, still_names}
 use Rattle.change_model.specs.Passes.{keeps_merge, keeps_phis}

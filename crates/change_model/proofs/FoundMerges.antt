@@ -1,16 +1,12 @@
 -- In the plan that one pass finds, the merge instruction of a selection that doesn't stay is dead or goes with its branch, and an arm is
 -- alive only where the branch goes there.
-use Rattle.std.proofs.Common.{◌≡◌, ℕ, zero, suc, ◌+◌, ◌<◌, ◌≤◌, ◌⊎◌, inl, inr, Bool, true, false, ◌==◌, ◌||◌, List, refl, ap, sym, ◌∙◌, arith, Option, None, Some}
+use Rattle.std.proofs.Common.{◌≡◌, ℕ, zero, suc, ◌+◌, ◌<◌, ◌≤◌, inl, inr, Bool, true, false, ◌==◌, ◌||◌, List, refl, ap, sym, ◌∙◌, arith, Option, Some}
 use Rattle.std.specs.List.{list_any, range_with_len}
 use Rattle.std.proofs.lemmas.Bool.{eq-eqb}
 use Rattle.spirv_model.specs.declared.module.Inst.{Inst}
 use Rattle.spirv_model.specs.declared.op.TheConstants as op
 use Rattle.spirv_model.specs.Operands.{entry_of, class_of}
-use Rattle.body_model.specs.declared.block_end.BlockEnd.TheVariants as way
-use Rattle.body_model.specs.declared.scope.LoopExits.{LoopExits}
-use Rattle.body_model.specs.Due.{IsDue}
 use Rattle.body_model.specs.Scope.{Scope}
-use Rattle.body_model.specs.Switches.{is_among}
 use Rattle.body_model.specs.Grammar.{Derives}
 use Rattle.valid_model.specs.Definitions.{inst_at}
 use Rattle.check_model.specs.Intervals.{Interval, intervals_of}

@@ -1,5 +1,5 @@
 -- A phi that goes has one pair whose block is left, and one pass finds that pair.
-use Rattle.std.proofs.Common.{◌≡◌, ℕ, ◌+◌, ◌-◌, ◌<◌, ◌≤◌, ◌==◌, ◌||◌, ◌&&◌, ◌⊎◌, inl, inr, Bool, true, false, not, nat_lt, if◌then◌else◌, List, [], ◌∷◌, refl, ap, sym, ◌∙◌, arith}
+use Rattle.std.proofs.Common.{◌≡◌, ℕ, ◌-◌, ◌<◌, ◌≤◌, ◌==◌, ◌&&◌, ◌⊎◌, inl, inr, Bool, true, false, not, nat_lt, if◌then◌else◌, List, [], ◌∷◌, refl, ap, sym, ◌∙◌}
 use Rattle.std.specs.Prelude.{filter}
 use Rattle.std.proofs.lemmas.Bool.{cases_lt, lt-ltb}
 use Rattle.spirv_model.specs.declared.module.Inst.{Inst}
@@ -14,11 +14,11 @@ use Rattle.change_model.specs.declared.fate.Fate.{Fate}
 use Rattle.change_model.specs.declared.fate.Fate.TheVariants as fate
 use Rattle.change_model.specs.Plans.{is_dead, leads_from, predecessors_left, block_at}
 use Rattle.change_model.specs.PlanRules.{is_shape, pairs_in}
-use Rattle.change_model.specs.Passes.{heads_loop, is_pair_left, pairs_found, keeps_phis, stands_at, phi_fate, phi_fate_of}
+use Rattle.change_model.specs.Passes.{heads_loop, is_pair_left, pairs_found, phi_fate_of}
 use Rattle.change_model.proofs.FoundBack.{none_behind}
 use Rattle.change_model.proofs.FoundOrigins.{Origin, goes_away, by_phi, by_load, by_chain, by_untyped, by_selection, by_loop, by_end, by_branch, by_switch, by_picks, by_folds, origin, dead_fate, alive_fate, alive_phi}
 use Rattle.change_model.proofs.FoundOrigins as source
-use Rattle.change_model.proofs.FoundPairs.{PairEnd, pair_end, pair_left}
+use Rattle.change_model.proofs.FoundPairs.{pair_end, pair_left}
 use Rattle.change_model.proofs.FoundPlans.{Found}
 use Rattle.change_model.proofs.LeftScopes.{is_label_at}
 use Rattle.change_model.proofs.PhiPairsLeft.{In}

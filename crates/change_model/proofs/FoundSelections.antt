@@ -1,13 +1,11 @@
 -- Where the OpSelectionMerge of a selection doesn't stay, one instruction is left before its merge block that leads there.
-use Rattle.std.proofs.Common.{◌≡◌, ℕ, ◌+◌, ◌<◌, ◌≤◌, ◌⊎◌, inl, inr, Bool, true, false, ◌==◌, List, length, slice_index, refl, ap, sym, ◌∙◌, subst, arith, Option, None, Some}
+use Rattle.std.proofs.Common.{◌≡◌, ℕ, ◌+◌, ◌<◌, ◌≤◌, inl, inr, Bool, true, false, ◌==◌, List, length, slice_index, ap, sym, ◌∙◌, subst, arith, None, Some}
 use Rattle.std.proofs.lemmas.Bool.{cases_lt}
 use Rattle.spirv_model.specs.declared.module.Inst.{Inst}
 use Rattle.spirv_model.specs.declared.op.TheConstants as op
 use Rattle.spirv_model.specs.Operands.{word_at}
 use Rattle.body_model.specs.declared.block_end.BlockEnd.{BlockEnd}
 use Rattle.body_model.specs.declared.block_end.BlockEnd.TheVariants as way
-use Rattle.body_model.specs.Blocks.{block_end}
-use Rattle.body_model.specs.Due.{IsDue}
 use Rattle.body_model.specs.Scope.{Scope, arm}
 use Rattle.body_model.specs.Grammar.{Arm, straight, through, Derives}
 use Rattle.body_model.proofs.Forward.{sound_at, forward, arm_forward}
@@ -27,7 +25,7 @@ use Rattle.change_model.proofs.FoundLabels.{all_dead}
 use Rattle.change_model.proofs.FoundMerges.{no_way_in, part_alive, branch_target}
 use Rattle.change_model.proofs.FoundPhis.{block_life}
 use Rattle.change_model.proofs.FoundPlans.{Found}
-use Rattle.change_model.proofs.LeftBlockNames.{inner_isnt, front_inner, inst_there, last_within}
+use Rattle.change_model.proofs.LeftBlockNames.{inner_isnt, front_inner, inst_there}
 use Rattle.change_model.proofs.LeftEnds.{way as way_of}
 use Rattle.change_model.proofs.LeftFates.{inners}
 use Rattle.change_model.proofs.LeftFronts.{OldBlock, old_block}
@@ -35,7 +33,7 @@ use Rattle.change_model.proofs.LeftHeadWays.{SelectsWay, head_way}
 use Rattle.change_model.proofs.LeftPlaced.{IsArmPlaced, placed_true, placed_false, due_label}
 use Rattle.change_model.proofs.LeftPlacedWhole.{labels_once}
 use Rattle.change_model.proofs.LeftQuiet.{NoWay, unnamed_inside}
-use Rattle.change_model.proofs.LeftScopes.{is_label_at, label_at, StandsNot, Placed}
+use Rattle.change_model.proofs.LeftScopes.{is_label_at, label_at, StandsNot}
 use Rattle.change_model.proofs.LeftTargets.{Stands, due_stands}
 
 clash : {Q : Type 0} (b : Bool) → b ≡ true → b ≡ false → Q

@@ -1,7 +1,7 @@
 -- A phi that stays may: its block is the header of a loop that stays, or the merge block of a selection or an OpSwitch that does.
-use Rattle.std.proofs.Common.{◌≡◌, ℕ, ◌+◌, ◌-◌, ◌<◌, ◌≤◌, ◌==◌, ◌||◌, ◌&&◌, inl, inr, Bool, true, false, not, nat_lt, if◌then◌else◌, List, [], ◌∷◌, length, map, refl, ap, sym, ◌∙◌, arith}
+use Rattle.std.proofs.Common.{◌≡◌, ℕ, ◌-◌, ◌<◌, ◌==◌, ◌||◌, ◌&&◌, inl, inr, Bool, true, false, not, nat_lt, if◌then◌else◌, List, [], ◌∷◌, length, map, refl, ap, sym, ◌∙◌, arith}
 use Rattle.std.specs.Prelude.{filter}
-use Rattle.std.proofs.lemmas.Bool.{cases_lt, eqb-true, eq-eqb, lt-ltb, ltb-true}
+use Rattle.std.proofs.lemmas.Bool.{eqb-true, eq-eqb, lt-ltb, ltb-true}
 use Rattle.std.proofs.lemmas.Option.{slice_get-get_or}
 use Rattle.spirv_model.specs.declared.module.Inst.{Inst}
 use Rattle.spirv_model.specs.declared.op.TheConstants as op
@@ -14,11 +14,10 @@ use Rattle.check_model.specs.Intervals.{intervals_of}
 use Rattle.check_model.specs.Visibility.{Incoming, incoming}
 use Rattle.typed_model.proofs.FunctionRuns.{function_within}
 use Rattle.typed_model.proofs.LabelsBefore.{one_end, ends_in_function}
-use Rattle.change_model.specs.declared.fate.Fate.{Fate}
 use Rattle.change_model.specs.declared.fate.Fate.TheVariants as fate
 use Rattle.change_model.specs.Plans.{is_dead, leads_from, block_at}
 use Rattle.change_model.specs.PlanRules.{is_shape, stays, lets_phis, may_keep_phis}
-use Rattle.change_model.specs.Passes.{is_left_loop, opens, is_header_merge, heads_loop, keeps_merge, keeps_phis, is_pair_left, pairs_found, stands_at, phi_fate, phi_fate_of}
+use Rattle.change_model.specs.Passes.{is_left_loop, is_header_merge, heads_loop, keeps_merge, keeps_phis, is_pair_left, pairs_found, stands_at, phi_fate_of}
 use Rattle.change_model.proofs.FoundBack.{header_own, header_life}
 use Rattle.change_model.proofs.FoundEntered.{some_leads, one_leads, leads_before}
 use Rattle.change_model.proofs.FoundGoes.{still_leads}
@@ -33,7 +32,6 @@ use Rattle.change_model.proofs.LeftLeaves.{named_terminator}
 use Rattle.change_model.proofs.LeftPlaced.{due_label}
 use Rattle.change_model.proofs.LeftPlacedWhole.{labels_once}
 use Rattle.change_model.proofs.LeftScopes.{is_label_at, label_at}
-use Rattle.change_model.proofs.LoopNames.{LoopAt}
 use Rattle.change_model.proofs.PhiPairsLeft.{In, in_blocks}
 
 clash : {Q : Type 0} (b : Bool) → b ≡ true → b ≡ false → Q

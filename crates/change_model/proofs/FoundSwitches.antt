@@ -1,14 +1,13 @@
 -- Where the OpSelectionMerge of an OpSwitch doesn't stay, one instruction is left before its merge block that leads there.
-use Rattle.std.proofs.Common.{◌≡◌, ℕ, suc, ◌+◌, ◌-◌, ◌<◌, ◌≤◌, ◌⊎◌, inl, inr, Bool, true, false, not, ◌==◌, ◌||◌, ◌&&◌, if◌then◌else◌, List, [], ◌∷◌, ◌++◌, length, slice_index, refl, ap, sym, ◌∙◌, subst, arith, Option, None, Some}
+use Rattle.std.proofs.Common.{◌≡◌, ℕ, suc, ◌+◌, ◌-◌, ◌<◌, ◌≤◌, ◌⊎◌, inl, inr, Bool, true, false, not, ◌==◌, ◌||◌, ◌&&◌, if◌then◌else◌, List, [], ◌∷◌, length, slice_index, refl, ap, sym, ◌∙◌, subst, arith, Option, None, Some}
 use Rattle.std.specs.List.{list_any}
 use Rattle.std.proofs.lemmas.Bool.{cases_lt, eqb-true, eq-eqb}
 use Rattle.spirv_model.specs.declared.module.Inst.{Inst}
 use Rattle.spirv_model.specs.declared.op.TheConstants as op
 use Rattle.spirv_model.specs.Operands.{word_at}
 use Rattle.body_model.specs.declared.block_end.BlockEnd.TheVariants as way
-use Rattle.body_model.specs.Scope.{Scope, switch_arm}
-use Rattle.body_model.specs.Switches.{is_among, targets_of, without, labels_of}
-use Rattle.body_model.specs.Targets.{targets}
+use Rattle.body_model.specs.Scope.{Scope}
+use Rattle.body_model.specs.Switches.{is_among, targets_of, labels_of}
 use Rattle.body_model.specs.Grammar.{Sequence, Arms, no_arm, arm_behind, Derives}
 use Rattle.body_model.proofs.Forward.{sound_at, forward, arms_forward}
 use Rattle.valid_model.specs.Definitions.{inst_at}
