@@ -241,6 +241,7 @@ pub mod FoundSooner
 pub mod FunctionPlaces
 pub mod ConstantChoices
 pub mod FoundStraight
+pub mod FunctionFalls
 pub mod PlanChanges
 pub mod SpecializedLeft
 pub mod ConstantsSpecialized
