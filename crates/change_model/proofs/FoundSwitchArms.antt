@@ -164,3 +164,64 @@ module _ (f : Found) (place end : ℕ) (w : Into f place end) where
         by_rest : (a b : Bool) → b ≡ true → (a || b) ≡ true
         by_rest true b is = refl
         by_rest false b is = is
+
+  -- ---- an arm of an OpSwitch
+
+  module _ (scope : Scope) (wanted next : Option ℕ) (from to : ℕ) (head : SwitchHead) (join : ℕ) (here : IsDue f.words.insts wanted from) (is : block_end f.words.insts scope from ≡ way.Picks head)
+      (arms : Arms f.words.insts scope head.merge (labels_of f.words.insts head) (labels_of f.words.insts head) head.after [] join) (rest : Sequence f.words.insts (behind_selection scope) (Some head.merge) join to next)
+      (p : Placed f.words.insts f.valid.derivation scope next from to (of_arms arms ++ inside rest)) (high : place < to) where
+    -- nothing but the OpSwitch names the arm's label
+    arm_begins : (cut : ℕ) → is_label_at f.words.insts cut ≡ true → head.after ≤ cut → cut < join → {left : List ℕ} → Arms f.words.insts scope head.merge (labels_of f.words.insts head) (labels_of f.words.insts head) head.after left cut
+        → Begins f.words.insts head.after cut
+    arm_begins cut label low less earlier =
+        let g = (sound_at insts scope from (way.Picks head) is).0 in
+        let g' = g.forward in
+        let h = (forward insts rest).forward in
+        let once = labels_once f.words f.valid in
+        let all = of_arms arms ++ inside rest in
+        let merge = stands_at_due insts head.merge head.merge join refl (due_of rest) in
+        let other : cut ≡ join → ⊥ = (λ same. omega (arith, same, less)) in
+        begins insts once d scope next from to all p cut (omega (arith, g', low)) (omega (arith, less, h)) label wanted (way.Picks head) here is tt g.within
+        (λ q least under named. arms_silent insts once d scope next from to all p cut (omega (arith, g', low)) (omega (arith, less, h)) label join earlier merge other (omega arith) q least under named)
+        (λ q least under among. unmerged_by insts once d scope wanted from (way.Picks head) here is tt (label_at insts cut) (λ same. other (once cut join label merge.is_label (same ∙ sym merge.own))) (λ none. none) q least under among)
+
+    merges : (own low past : ℕ) → Sequence f.words.insts (switch_arm scope head.merge (without own (labels_of f.words.insts head))) (Some own) low past None → is_label_at f.words.insts past ≡ true → from ≤ low → past ≤ place → low ≤ end → end < past
+        → label_at f.words.insts w.at ≡ head.merge
+    merges own low past s label down most least less = test_label (label_at insts w.at == head.merge) (λ same. eqb-true (label_at insts w.at) head.merge same)
+        (λ differs.
+        let may = switch_exit scope head.merge (without own (labels_of insts head)) next (label_at insts w.at) (leaves f place end w s label most least less) differs in
+        let at = label_low f place end w past label most in
+        let behind = w.behind in
+        absurd (p.left (label_at insts w.at) may w.at (omega (arith, down, least, less, at)) (omega (arith, behind, high)) w.label refl))
+
+    pub switch_arm_holds : (own low past : ℕ) {left : List ℕ} → Arms f.words.insts scope head.merge (labels_of f.words.insts head) (labels_of f.words.insts head) head.after left low
+        → (s : Sequence f.words.insts (switch_arm scope head.merge (without own (labels_of f.words.insts head))) (Some own) low past None) → PlacedArm f.words.insts f.valid.derivation scope head.merge (labels_of f.words.insts head) head.after own low past (inside s)
+        → ((test : Interval → Bool) → test (interval low past) ≡ true → list_any test (intervals_of f.valid.derivation) ≡ true) → is_label_at f.words.insts past ≡ true → past ≤ join → low ≤ end → end < past → past ≤ place
+        → Holds f place end w (around low past (inside s))
+    switch_arm_holds own low past earlier s pa among label most least less behind =
+        let o = old_pick insts scope wanted from here head is in
+        let pw = pick_way insts scope wanted from here head is in
+        let e = o.place_is in
+        let a = pw.after in
+        let t = stands_at_due insts own own low refl (due_of s) in
+        let g = (forward insts s).forward in
+        let l = p.low in
+        let h = p.high in
+        let r = (forward insts rest).forward in
+        let after = arms_forward insts earlier in
+        let same = merges own low past s label (omega (arith, e, a, after)) behind least less in
+        let there = second_there insts scope from (way.Picks head) o pw.last pw.rest pw.at in
+        let switch = ap (λ (i : Inst). i.op) there ∙ pw.switch in
+        let merge = ap (word_at 0) (inst_there insts scope from (way.Picks head) o) ∙ sym pw.merge ∙ sym same in
+        arm_crossed f place end w o.place low past (inside s) (omega (arith, l, e)) (omega (arith, a, after)) (omega (arith, most, r, h)) (omega (arith, a, after, least, less, behind))
+        (ap (λ (i : Inst). i.op) (inst_there insts scope from (way.Picks head) o) ∙ pw.is) merge (ap (λ (n : ℕ). n == op.LABEL) switch) t.is_label
+        (begins_as (arm_begins low t.is_label after (omega (arith, g, most)) earlier) (omega (arith, a))) (λ q at under from_low before is_label. pa.placed.entered q at (inl under) from_low before is_label) least less
+        (λ skipped to_low.
+        let sw = switch_way f (o.place + 1) (f.plan.fate (o.place + 1)) (origin f (o.place + 1)) skipped.label skipped.goes_to switch in
+        let none = within f (o.place + 1) skipped.label switch (omega (arith, l, e)) (omega (arith, a, after, g, most, r, h)) sw.0 sw.1 in
+        let there_none = ap (λ (n : ℕ). is_left_within f.plan insts (intervals_of d) skipped.label n) (sym (ap (λ (n : ℕ). word_at 0 (inst_at insts n)) {x = o.place + 1 - 1} {y = o.place} (omega arith) ∙ merge)) ∙ none in
+        nested_holds skipped.label low past there_none (and_true (is_label_at insts low) (label_at insts low == skipped.label) t.is_label (eq-eqb (label_at insts low) skipped.label (sym to_low))) among (inside s)
+        (lies_behind insts s) (λ test some. pa.placed.intervals test some))
+      where
+        begins_as : {after also cut : ℕ} → Begins f.words.insts after cut → after ≡ also → Begins f.words.insts also cut
+        begins_as begin is = record { leads = λ q under among. begin.leads q under among ∙ is; merges = λ q under among. begin.merges q under among }
