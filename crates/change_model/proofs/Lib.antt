@@ -233,6 +233,7 @@ pub mod FoundUnused
 pub mod FoundCrossings
 pub mod FoundArms
 pub mod FoundSwitchArms
+pub mod FoundEntries
 pub mod FoundReduced
 pub mod FoundSooner
 pub mod ConstantChoices
