@@ -23,6 +23,7 @@ use Rattle.stage_model.proofs.Exits.{condition_exit, body_exit, continue_exit}
 use Rattle.typed_model.proofs.Keeping.{LieIn, lie_around}
 use Rattle.typed_model.proofs.VisibleJumps.{lies, arm_lies, arms_lie}
 use Rattle.change_model.specs.PlanRules.{merge_labels}
+use Rattle.change_model.proofs.BlockEntries.{arm_silent}
 use Rattle.change_model.proofs.FoundArms.{leaves, arm_holds}
 use Rattle.change_model.proofs.FoundCrossings.{Into, Holds, holds_both, holds_away, label_low}
 use Rattle.change_model.proofs.FoundPlans.{Found}
@@ -139,3 +140,150 @@ module _ (f : Found) (place end : ℕ) (w : Into f place end) where
         let q = (forward insts within).forward in
         let r = (forward insts step).forward in
         omega (arith, b, low, g, p, q, r)
+
+  -- ---- sequences
+
+  -- where an arm begins, or what stands behind it
+  arm_end : {scope : Scope} {merge target low past : ℕ} → Arm f.words.insts scope merge target low past → is_label_at f.words.insts past ≡ true → is_label_at f.words.insts low ≡ true
+  arm_end {low = low} {past = past} (straight same none) label = ap (is_label_at insts) none ∙ label
+  arm_end {target = target} {low = low} (through isnt s) label = due_label insts (Some target) low (due_of s)
+
+  -- an arm of an OpSwitch that the branch leaves
+  abbrev Crossed : Scope → ℕ → List ℕ → ℕ → ℕ → Type 0
+  Crossed scope merge all after join = (own low past : ℕ) (left : List ℕ) → Arms f.words.insts scope merge all all after left low → (s : Sequence f.words.insts (switch_arm scope merge (without own all)) (Some own) low past None)
+      → PlacedArm f.words.insts f.valid.derivation scope merge all after own low past (inside s) → ((test : Interval → Bool) → test (interval low past) ≡ true → list_any test (intervals_of f.valid.derivation) ≡ true) → is_label_at f.words.insts past ≡ true
+      → past ≤ join → low ≤ end → end < past → past ≤ place → Holds f place end w (around low past (inside s))
+
+  first_of : (test : Interval → Bool) (i : Interval) (is : List Interval) → test i ≡ true → list_any test (i ∷ is) ≡ true
+  first_of test i is own = by_first (test i) (list_any test is) own
+    where
+      by_first : (a b : Bool) → a ≡ true → (a || b) ≡ true
+      by_first true b is = refl
+      by_first false b is = cc
+
+  mutual
+    holds : {scope : Scope} {wanted next : Option ℕ} {from to : ℕ} (s : Sequence f.words.insts scope wanted from to next) → Placed f.words.insts f.valid.derivation scope next from to (inside s) → from ≤ end → end < to → place < to → Holds f place end w (inside s)
+    holds (ends last here is next_is after_is) p low high most = tt
+    holds {scope} {wanted} {next} {from} {to} (goes_on after here is rest) p low high most = elim (cases_lt end after) [
+      | inl early ↦ holds_away f place end w after to (inside rest) (lies insts rest) (inl early)
+      | inr late ↦ holds rest (placed_next insts (labels_once f.words f.valid) d scope wanted next from to after here is rest p) late high most
+    ]
+    holds {scope} {wanted} {next} {from} {to} (selects head second join here is on_true on_false rest) p low high most =
+        let once = labels_once f.words f.valid in
+        let a = arm_forward insts on_true in
+        let b = arm_forward insts on_false in
+        let A = of_arm on_true in
+        let B = of_arm on_false in
+        let R = inside rest in
+        let true_away = holds_away f place end w head.after second A (arm_lies insts on_true) in
+        let false_away = holds_away f place end w second join B (arm_lies insts on_false) in
+        let rest_away = holds_away f place end w join to R (lies insts rest) in
+        let all : Holds f place end w A → Holds f place end w B → Holds f place end w R → Holds f place end w (A ++ (B ++ R)) =
+        λ x y z. holds_both f place end w A (B ++ R) x (holds_both f place end w B R y z) in
+        let join_label = due_label insts (Some head.merge) join (due_of rest) in
+        elim (cases_lt end head.after) [
+          | inl early ↦ all (true_away (inl early)) (false_away (inl (omega (arith, early, a)))) (rest_away (inl (omega (arith, early, a, b))))
+          | inr late ↦ elim (cases_lt end second) [
+            | inl in_true ↦ all
+                (elim (cases_lt place second) [
+                  | inl within ↦ arm_within on_true (placed_true insts once d scope wanted next from to head second join here is on_true on_false rest p) late in_true within
+                  | inr past ↦ arm_holds f place end w scope wanted next from to head second join here is on_true on_false rest p most on_true (placed_true insts once d scope wanted next from to head second join here is on_true on_false rest p)
+                      (arm_end on_false join_label) (omega arith) b (λ q least less named label isnt. omega (arith, least, less)) late in_true past
+                ]) (false_away (inl in_true)) (rest_away (inl (omega (arith, in_true, b))))
+            | inr beyond ↦ elim (cases_lt end join) [
+              | inl in_false ↦ all (true_away (inr beyond))
+                  (elim (cases_lt place join) [
+                    | inl within ↦ arm_within on_false (placed_false insts once d scope wanted next from to head second join here is on_true on_false rest p) beyond in_false within
+                    | inr past ↦ arm_holds f place end w scope wanted next from to head second join here is on_true on_false rest p most on_false (placed_false insts once d scope wanted next from to head second join here is on_true on_false rest p)
+                        join_label a (omega arith)
+                        (λ q least less named label isnt.
+                        let g = (sound_at insts scope from (way.Selects head) is).0.forward in
+                        let h = (forward insts rest).forward in
+                        let s = stands_at_due insts head.merge head.merge join refl (due_of rest) in
+                        arm_silent insts once d scope next from to (A ++ (B ++ R)) p second (omega (arith, g, a)) (omega (arith, b, h)) label join on_true s
+                        (λ same. isnt (ap (label_at insts) same ∙ s.own)) (inr (omega arith)) q least less named) beyond in_false past
+                  ]) (rest_away (inl in_false))
+              | inr behind ↦ all (true_away (inr (omega (arith, b, behind)))) (false_away (inr behind))
+                  (holds rest (placed_merge insts once d scope wanted next from to head second join here is on_true on_false rest p) behind high most)
+            ]
+          ]
+        ]
+    holds {scope} {wanted} {next} {from} {to} (picks head join here is arms rest) p low high most =
+        let once = labels_once f.words f.valid in
+        let a = arms_forward insts arms in
+        let A = of_arms arms in
+        let R = inside rest in
+        let rest_away = holds_away f place end w join to R (lies insts rest) in
+        elim (cases_lt end head.after) [
+          | inl early ↦ holds_both f place end w A R (holds_away f place end w head.after join A (arms_lie insts arms) (inl early)) (rest_away (inl (omega (arith, early, a))))
+          | inr late ↦ elim (cases_lt end join) [
+            | inl in_arms ↦ holds_both f place end w A R
+                (arms_hold join (λ own start past left earlier s px among label up least less behind. switch_arm_holds f place end w scope wanted next from to head join here is arms rest p most own start past earlier s px among label up least less behind) arms (placed_arms insts once d scope wanted next from to head join here is arms rest p)
+                (λ test some. p.intervals test (any_left test A R some)) (due_label insts (Some head.merge) join (due_of rest)) (omega arith) late in_arms) (rest_away (inl in_arms))
+            | inr behind ↦ holds_both f place end w A R (holds_away f place end w head.after join A (arms_lie insts arms) (inr behind))
+                (holds rest (placed_join insts once d scope wanted next from to head join here is arms rest p) behind high most)
+          ]
+        ]
+    holds {scope} {wanted} {next} {from} {to} (loops head inner first second third here is tested within step rest) p low high most =
+        let once = labels_once f.words f.valid in
+        let t = (forward insts tested).forward in
+        let q = (forward insts within).forward in
+        let r = (forward insts step).forward in
+        let C = around head.after first (inside tested) in
+        let D = around first second (inside within) in
+        let E = around second third (inside step) in
+        let R = inside rest in
+        let test_away = holds_away f place end w head.after first C (lie_around head.after first (inside tested) (lies insts tested)) in
+        let body_away = holds_away f place end w first second D (lie_around first second (inside within) (lies insts within)) in
+        let step_away = holds_away f place end w second third E (lie_around second third (inside step) (lies insts step)) in
+        let rest_away = holds_away f place end w third to R (lies insts rest) in
+        let all : Holds f place end w C → Holds f place end w D → Holds f place end w E → Holds f place end w R → Holds f place end w (C ++ (D ++ (E ++ R))) =
+        λ x y z u. holds_both f place end w C (D ++ (E ++ R)) x (holds_both f place end w D (E ++ R) y (holds_both f place end w E R z u)) in
+        elim (cases_lt end head.after) [
+          | inl early ↦ all (test_away (inl early)) (body_away (inl (omega (arith, early, t)))) (step_away (inl (omega (arith, early, t, q)))) (rest_away (inl (omega (arith, early, t, q, r))))
+          | inr late ↦ elim (cases_lt end first) [
+            | inl in_test ↦ all
+                (elim (cases_lt place first) [
+                  | inl there ↦ (λ _ _ _. there, holds tested (placed_test insts once d scope wanted next from to head inner first second third here is tested within step rest p) late in_test there)
+                  | inr past ↦ absurd (test_stays scope wanted next from to head inner first second third here is tested within step rest late in_test past)
+                ]) (body_away (inl in_test)) (step_away (inl (omega (arith, in_test, q)))) (rest_away (inl (omega (arith, in_test, q, r))))
+            | inr further ↦ elim (cases_lt end second) [
+              | inl in_body ↦ all (test_away (inr further))
+                  (elim (cases_lt place second) [
+                    | inl there ↦ (λ _ _ _. there, holds within (placed_body insts once d scope wanted next from to head inner first second third here is tested within step rest p) further in_body there)
+                    | inr past ↦ absurd (body_stays scope wanted next from to head inner first second third here is tested within step rest further in_body past)
+                  ]) (step_away (inl in_body)) (rest_away (inl (omega (arith, in_body, r))))
+              | inr later ↦ elim (cases_lt end third) [
+                | inl in_step ↦ all (test_away (inr further)) (body_away (inr later))
+                    (elim (cases_lt place third) [
+                      | inl there ↦ (λ _ _ _. there, holds step (placed_step insts once d scope wanted next from to head inner first second third here is tested within step rest p) later in_step there)
+                      | inr past ↦ absurd (step_stays scope wanted next from to head inner first second third here is tested within step rest later in_step past)
+                    ]) (rest_away (inl in_step))
+                | inr behind ↦ all (test_away (inr further)) (body_away (inr later)) (step_away (inr behind))
+                    (holds rest (placed_behind insts once d scope wanted next from to head inner first second third here is tested within step rest p) behind high most)
+              ]
+            ]
+          ]
+        ]
+
+    arm_within : {scope : Scope} {merge target low past : ℕ} (x : Arm f.words.insts scope merge target low past) → IsArmPlaced f.words.insts f.valid.derivation x → low ≤ end → end < past → place < past → Holds f place end w (of_arm x)
+    arm_within (straight same none) px least less most = absurd (omega (arith, none, least, less))
+    arm_within (through isnt s) px least less most = (λ _ _ _. most, holds s px least less most)
+
+    arms_hold : {scope : Scope} {merge after : ℕ} {all left : List ℕ} {past : ℕ} (join : ℕ) → Crossed scope merge all after join → (x : Arms f.words.insts scope merge all all after left past) → AreArmsPlaced f.words.insts f.valid.derivation after x
+        → ((test : Interval → Bool) → list_any test (of_arms x) ≡ true → list_any test (intervals_of f.valid.derivation) ≡ true) → is_label_at f.words.insts past ≡ true → past ≤ join → after ≤ end → end < past → Holds f place end w (of_arms x)
+    arms_hold join crossed (no_arm same none) px among label most least less = absurd (omega (arith, none, least, less))
+    arms_hold {scope} {merge} {after} {all} {left} {past} join crossed (arm_behind own between before arms is_among fewer s) px among label most least less =
+        let g = (forward insts s).forward in
+        let A = of_arms arms in
+        let S = around between past (inside s) in
+        elim (cases_lt end between) [
+          | inl early ↦ holds_both f place end w A S
+              (arms_hold join crossed arms px.0 (λ test some. among test (any_left test A S some)) (due_label insts (Some own) between (due_of s)) (omega (arith, g, most)) least early)
+              (holds_away f place end w between past S (lie_around between past (inside s) (lies insts s)) (inl early))
+          | inr late ↦ holds_both f place end w A S (holds_away f place end w after between A (arms_lie insts arms) (inr late))
+              (elim (cases_lt place past) [
+                | inl there ↦ (λ _ _ _. there, holds s px.1.placed late less there)
+                | inr beyond ↦ crossed own between past before arms s px.1 (λ test one. among test (any_right test A S (first_of test (interval between past) (inside s) one))) label most late less beyond
+              ])
+        ]
