@@ -162,7 +162,7 @@ module _ (f : Found) (place end : ℕ) (w : Into f place end) where
       by_first false b is = cc
 
   mutual
-    holds : {scope : Scope} {wanted next : Option ℕ} {from to : ℕ} (s : Sequence f.words.insts scope wanted from to next) → Placed f.words.insts f.valid.derivation scope next from to (inside s) → from ≤ end → end < to → place < to → Holds f place end w (inside s)
+    pub holds : {scope : Scope} {wanted next : Option ℕ} {from to : ℕ} (s : Sequence f.words.insts scope wanted from to next) → Placed f.words.insts f.valid.derivation scope next from to (inside s) → from ≤ end → end < to → place < to → Holds f place end w (inside s)
     holds (ends last here is next_is after_is) p low high most = tt
     holds {scope} {wanted} {next} {from} {to} (goes_on after here is rest) p low high most = elim (cases_lt end after) [
       | inl early ↦ holds_away f place end w after to (inside rest) (lies insts rest) (inl early)

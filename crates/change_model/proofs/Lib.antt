@@ -234,6 +234,8 @@ pub mod FoundCrossings
 pub mod FoundArms
 pub mod FoundSwitchArms
 pub mod FoundEntries
+pub mod FoundValues
+pub mod FoundResolved
 pub mod FoundReduced
 pub mod FoundSooner
 pub mod ConstantChoices
