@@ -50,7 +50,7 @@ use Rattle.change_model.proofs.FoundNames.{phi_defined, phi_meaning, pair_fits, 
 use Rattle.change_model.proofs.FoundOrigins.{Origin, goes_away, by_phi, by_load, by_chain, by_untyped, by_selection, by_loop, by_end, by_branch, by_switch, by_picks, by_folds, origin, alive_fate, dead_fate}
 use Rattle.change_model.proofs.FoundOrigins as source
 use Rattle.change_model.proofs.FoundPlans.{Found}
-use Rattle.change_model.proofs.FoundUses.{IsUsedAs, renamed_as, IsPairOf, comes_from, pair_of, either, phi_inside, load_inside, store_inside, switch_inside, stands_inside}
+use Rattle.change_model.proofs.FoundUses.{IsUsedAs, renamed_as, IsPairOf, comes_from, pair_of, either, phi_inside, load_inside, store_inside, chain_inside, switch_inside, stands_inside}
 use Rattle.change_model.proofs.FunctionKnown.{function_known, plain_facts}
 use Rattle.change_model.proofs.LeftScopes.{is_label_at}
 use Rattle.change_model.proofs.PlanRunsNames.{phi_result, written_by}
@@ -58,8 +58,8 @@ use Rattle.change_model.proofs.PlanRunsRenamed.{renamed}
 use Rattle.change_model.proofs.PlanRunsRoots.{kept_plain}
 use Rattle.change_model.proofs.PlanRunsValues.{own_defined}
 use Rattle.change_model.proofs.PlanRunsZeros.{storage_here}
-use Rattle.change_model.proofs.TakenOperands.{clash, is_value, is_taken_type}
-use Rattle.change_model.proofs.TakenUses.{IsPointedTo, loaded, stored, IsMisfit, misfit_used}
+use Rattle.change_model.proofs.TakenOperands.{clash, is_object, is_taken_type}
+use Rattle.change_model.proofs.TakenUses.{IsPointedTo, loaded, stored, based, IsMisfit, misfit_used}
 use Rattle.change_model.proofs.TypesNamed.{means}
 
 -- ---- instructions that use nothing
@@ -164,6 +164,7 @@ module _ (f : Found) (id : ℕ) (m : IsMisfit f.words.insts id) (free : (place :
       by_pointer : IsPointedTo (inst_at f.words.insts place) id → ⊥
       by_pointer (loaded other at) = other_op (inst_at insts place).op op.SWITCH op.LOAD is other refl
       by_pointer (stored other at) = other_op (inst_at insts place).op op.SWITCH op.STORE is other refl
+      by_pointer (based other at) = other_op (inst_at insts place).op op.SWITCH op.ACCESS_CHAIN is other refl
 
   written_free : (place : ℕ) (what : Fate) → f.plan.fate place ≡ what → Origin f place what → list_any (is_user id) (written_as f.plan f.words.insts place (inst_at f.words.insts place) what) ≡ false
   written_free place what same goes_away = refl
@@ -194,6 +195,18 @@ chain_fit : (typing : Typing) (words : List ℕ) → operands_fit typing (instru
     → chain_fits typing (word_at 0 (instruction op.ACCESS_CHAIN words)) (typing.meaning (word_at 2 (instruction op.ACCESS_CHAIN words))) (words_from 3 (instruction op.ACCESS_CHAIN words)) ≡ true
 unfolding operands_fit class_of entry_of memory_operands_fit
 chain_fit typing words fit = fit
+
+-- a chain leads into a variable
+no_value_chain : (f : Found) (place id type : ℕ) → (inst_at f.words.insts place).op ≡ op.ACCESS_CHAIN → word_at 2 (inst_at f.words.insts place) ≡ id → meaning f.words.insts id ≡ OfValue type → ⊥
+no_value_chain f place id type is at value =
+    let insts = f.words.insts in
+    let typing = typing_of insts in
+    let chain = inst_at insts place in
+    let w = stands_inside f.words f.valid place op.ACCESS_CHAIN chain_inside is in
+    let fit = at_op (λ (i : Inst). operands_fit typing i ≡ true → chain_fits typing (word_at 0 i) (typing.meaning (word_at 2 i)) (words_from 3 i) ≡ true) chain op.ACCESS_CHAIN (eq-eqb chain.op op.ACCESS_CHAIN is) (chain_fit typing chain.words)
+    ((valid_sound f.words f.valid).fit place (function_within insts f.valid.derivation place w.1)) in
+    clash (chain_fits typing (word_at 0 chain) (typing.meaning (word_at 2 chain)) (words_from 3 chain)) fit
+    (ap (λ (m : Meaning). chain_fits typing (word_at 0 chain) m (words_from 3 chain)) (ap typing.meaning at ∙ means insts id ∙ value))
 
 -- a pointer into an input
 record IsInputPointer (m : Meaning) : Type 0 where
@@ -282,7 +295,7 @@ module _ (f : Found) (place : ℕ) (low : f.valid.derivation.before < place) (hi
       ap (λ (m : Meaning). meaning_of typing (type_id m)) (means f.words.insts (word_at 1 chain) ∙ chain_meaning) ∙ chain_points.is
 
   chain_misfit : IsMisfit f.words.insts (word_at 1 (inst_at f.words.insts place))
-  chain_misfit = record { value = ap is_value chain_meaning; apart = ap is_taken_type chain_type }
+  chain_misfit = record { value = ap is_object chain_meaning; apart = ap is_taken_type chain_type }
 
   chain_free : (other : ℕ) → f.plan.fate other ≡ fate.Stays → IsPointedTo (inst_at f.words.insts other) (word_at 1 (inst_at f.words.insts place)) → ⊥
   chain_free other stays (loaded load at) =
@@ -293,6 +306,8 @@ module _ (f : Found) (place : ℕ) (low : f.valid.derivation.before < place) (hi
       let w = stands_inside f.words f.valid other op.STORE store_inside store in
       clash (points_to_read_only (type_of (typing_of insts) (word_at 0 (inst_at insts other))))
       (ap (λ (n : ℕ). points_to_read_only (type_of (typing_of insts) n)) at ∙ ap points_to_read_only chain_type) (storage_here f.words f.valid other w.1 store)
+
+  chain_free other stays (based also at) = no_value_chain f other (word_at 1 chain) (word_at 0 chain) also at chain_meaning
 
   chain_unused : MayBeUnused f.plan f.words.insts place
   chain_unused =
@@ -328,7 +343,7 @@ module _ (f : Found) (place : ℕ) (high : place < f.valid.derivation.after) (is
 
   untyped_misfit : IsMisfit f.words.insts (word_at 1 (inst_at f.words.insts place))
   untyped_misfit = record {
-    value = ap is_value (phi_meaning f place high is);
+    value = ap is_object (phi_meaning f place high is);
     apart = ap is_taken_type untyped_type ∙ ap (λ (b : Bool). b && not (is_pointer (meaning f.words.insts (word_at 0 phi)))) untyped;
   }
 
@@ -353,6 +368,8 @@ module _ (f : Found) (place : ℕ) (high : place < f.valid.derivation.after) (is
       ((valid_sound f.words f.valid).fit other (function_within insts f.valid.derivation other w.1)) in
       clash (store_fits typing (word_at 0 user) (word_at 1 user)) fit
       (ap (λ (n : ℕ). store_fits typing n (word_at 1 user)) at ∙ ap (λ (to : Option ℕ). is_object_of typing to (word_at 1 user)) points_to_none)
+
+  untyped_free other stays (based also at) = no_value_chain f other (word_at 1 phi) (word_at 0 phi) also at (phi_meaning f place high is)
 
   untyped_unused : MayBeUnused f.plan f.words.insts place
   untyped_unused =

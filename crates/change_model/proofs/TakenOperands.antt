@@ -5,7 +5,7 @@ use Rattle.basics.proofs.Bools.{first_of_both, second_of_both}
 use Rattle.spirv_model.specs.declared.class.ScalarClass.{ScalarClass}
 use Rattle.spirv_model.specs.declared.class.ScalarClass.TheVariants.{Bitcast, WordFromWord, WordFromWords, TruthFromWords, TruthFromTruth, TruthFromTruths, Select}
 use Rattle.valid_model.specs.declared.meaning.Meaning.{Meaning}
-use Rattle.valid_model.specs.declared.meaning.Meaning.TheVariants.{Shape as OfShape, Value as OfValue}
+use Rattle.valid_model.specs.declared.meaning.Meaning.TheVariants.{Shape as OfShape, Variable, Value as OfValue}
 use Rattle.valid_model.specs.declared.meaning.Shape.TheVariants.{Pointer}
 use Rattle.valid_model.specs.Knowledge.{is_bool, is_integer, is_data}
 use Rattle.check_model.specs.declared.components.Components.{Components}
@@ -23,13 +23,15 @@ use Rattle.change_model.specs.PlanRules.{is_shape}
 abbrev pub is_taken_type : Meaning → Bool
 is_taken_type m = is_shape m && not (is_pointer m)
 
-abbrev pub is_value : Meaning → Bool
-is_value (OfValue type) = true
-is_value m = false
+-- the result of an instruction that is no constant
+abbrev pub is_object : Meaning → Bool
+is_object (OfValue type) = true
+is_object (Variable type class) = true
+is_object m = false
 
--- a value has such a type
+-- it has such a type
 abbrev pub IsTaken : Typing → ℕ → Type 0
-IsTaken typing id = is_value (typing.meaning id) ≡ true → is_taken_type (type_of typing id) ≡ true
+IsTaken typing id = is_object (typing.meaning id) ≡ true → is_taken_type (type_of typing id) ≡ true
 
 pub components_taken : (m : Meaning) → is_some (components_in m) ≡ true → is_taken_type m ≡ true
 components_taken (OfShape (Pointer class to)) is = cc
@@ -60,13 +62,13 @@ pub clash : {Q : Type 0} (b : Bool) → b ≡ true → b ≡ false → Q
 clash true is isnt = cc
 clash false is isnt = cc
 
-shape_no_value : (m : Meaning) → is_shape m ≡ true → is_value m ≡ false
+shape_no_value : (m : Meaning) → is_shape m ≡ true → is_object m ≡ false
 shape_no_value (OfShape shape) is = refl
 shape_no_value m is = cc
 
 module _ (typing : Typing) where
-  pub not_value : (id : ℕ) → is_value (typing.meaning id) ≡ false → IsTaken typing id
-  not_value id isnt value = clash (is_value (typing.meaning id)) value isnt
+  pub not_value : (id : ℕ) → is_object (typing.meaning id) ≡ false → IsTaken typing id
+  not_value id isnt value = clash (is_object (typing.meaning id)) value isnt
 
   pub type_taken : (id : ℕ) → is_shape (typing.meaning id) ≡ true → IsTaken typing id
   type_taken id is = not_value id (shape_no_value (typing.meaning id) is)

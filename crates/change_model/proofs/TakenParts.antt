@@ -19,12 +19,12 @@ use Rattle.check_model.specs.CompositeOperands.{is_scalar_of, part_at, part_of, 
 use Rattle.check_model.specs.MemoryOperands.{is_object_of, store_fits, indexed, member_at, chain_part, chain_step, chain_along, is_pointer_to, chain_fits}
 use Rattle.check_model.specs.Typing.{Typing, type_id, meaning_of, type_of, has_type, components_in}
 use Rattle.typed_model.proofs.ReadTypes.{Each}
-use Rattle.change_model.proofs.TakenOperands.{is_taken_type, is_value, IsTaken, components_taken, data_taken, integer_taken, vector_taken, not_value, of_type_taken}
+use Rattle.change_model.proofs.TakenOperands.{is_taken_type, is_object, IsTaken, components_taken, data_taken, integer_taken, vector_taken, not_value, of_type_taken}
 use Rattle.change_model.proofs.TypesNamed.{AreSound, IsDataPart, data_next, data_along}
 
--- an OpConstant is no value of an instruction
+-- an OpConstant is none
 abbrev pub AreNumbersConstant : Typing → Type 0
-AreNumbersConstant typing = (id word : ℕ) → typing.constant id ≡ Some word → is_value (typing.meaning id) ≡ false
+AreNumbersConstant typing = (id word : ℕ) → typing.constant id ≡ Some word → is_object (typing.meaning id) ≡ false
 
 module _ (typing : Typing) (s : AreSound typing) where
   -- ---- composites
@@ -216,12 +216,12 @@ module _ (typing : Typing) (s : AreSound typing) where
     reached_by (OfShape (Pointer class to)) storage (Some own) fit = (own, refl)
     reached_by m storage reached fit = cc
 
-    chain_by : (type base : ℕ) (m : Meaning) (indices : List ℕ) → typing.meaning base ≡ m → chain_fits typing type m indices ≡ true → IsTaken typing base × Each (IsTaken typing) indices
-    chain_by type base (Variable held storage) indices is fit =
+    chain_by : (type : ℕ) (m : Meaning) (indices : List ℕ) → chain_fits typing type m indices ≡ true → Each (IsTaken typing) indices
+    chain_by type (Variable held storage) indices fit =
         let from : Option Part = option_map part.Type (pointee_id (typing.meaning held)) in
         let r = reached_by (typing.meaning type) storage (chain_along typing from indices) fit in
-        (not_value typing base (ap is_value is), from_taken from indices r.0 r.1)
-    chain_by type base m indices is fit = cc
+        from_taken from indices r.0 r.1
+    chain_by type m indices fit = cc
 
-    pub chain_taken : (type base : ℕ) (indices : List ℕ) → chain_fits typing type (typing.meaning base) indices ≡ true → Each (IsTaken typing) (base ∷ indices)
-    chain_taken type base indices fit = chain_by type base (typing.meaning base) indices refl fit
+    pub chain_taken : (type base : ℕ) (indices : List ℕ) → chain_fits typing type (typing.meaning base) indices ≡ true → Each (IsTaken typing) indices
+    chain_taken type base indices fit = chain_by type (typing.meaning base) indices fit

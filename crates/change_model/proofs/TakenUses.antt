@@ -33,14 +33,15 @@ use Rattle.typed_model.proofs.ResultIds.{is_named, named}
 use Rattle.typed_model.proofs.ValidModules.{valid_sound}
 use Rattle.change_model.specs.PlanRules.{is_shape}
 use Rattle.change_model.proofs.PlanRunsRenamed.{all_used, scalar_ids, operands_used}
-use Rattle.change_model.proofs.TakenOperands.{clash, is_taken_type, is_value, IsTaken, type_taken, scalar_taken, truth_taken, number_taken}
+use Rattle.change_model.proofs.TakenOperands.{clash, is_taken_type, is_object, IsTaken, type_taken, scalar_taken, truth_taken, number_taken}
 use Rattle.change_model.proofs.TakenParts.{AreNumbersConstant, parts_taken, extract_taken, insert_taken, shuffle_taken, reduction_taken, object_taken, chain_taken}
 use Rattle.change_model.proofs.TypesNamed.{AreSound, sound_types, means, fit_class, first_shaped}
 
--- what a load reads from, or a store writes to
+-- what a load reads from, a store writes to, or a chain leads into
 pub data IsPointedTo (inst : Inst) (id : ℕ) : Type 0 where
   loaded : inst.op ≡ op.LOAD → word_at 2 inst ≡ id → IsPointedTo inst id
   stored : inst.op ≡ op.STORE → word_at 0 inst ≡ id → IsPointedTo inst id
+  based : inst.op ≡ op.ACCESS_CHAIN → word_at 2 inst ≡ id → IsPointedTo inst id
 
 -- one that an instruction may use
 abbrev pub IsUsable : Typing → Inst → ℕ → Type 0
@@ -87,7 +88,7 @@ module _ (typing : Typing) (s : AreSound typing) (numbers : AreNumbersConstant t
       let inst = instruction op.ACCESS_CHAIN (type ∷ id ∷ base ∷ index ∷ indices) in
       let t = chain_taken typing s numbers type base (index ∷ indices) fit in (
         inl (type_taken typing type (shaped refl refl)),
-        (inl t.0, (inl t.1.0, subst (Each (IsUsable typing inst)) (sym (all_used indices)) (all_usable typing inst indices t.1.1))),
+        (inr (based refl refl), (inl t.0, subst (Each (IsUsable typing inst)) (sym (all_used indices)) (all_usable typing inst indices t.1))),
       )
   chain_uses (type ∷ id ∷ base ∷ []) has shaped fit = cc
   chain_uses (type ∷ id ∷ []) has shaped fit = cc
@@ -247,12 +248,12 @@ constant_class : is_constant op.CONSTANT ≡ true
 unfolding class_of entry_of
 constant_class = refl
 
-number_by : (insts : List Inst) (id word : ℕ) (defined : Option ℕ) → definition insts id ≡ defined → constant_word insts id ≡ Some word → is_value (meaning insts id) ≡ false
+number_by : (insts : List Inst) (id word : ℕ) (defined : Option ℕ) → definition insts id ≡ defined → constant_word insts id ≡ Some word → is_object (meaning insts id) ≡ false
 unfolding constant_word
 number_by insts id word None at known = let e = sym (ap (option_and_then (λ place. constant_in (inst_at insts place))) at) ∙ known in cc
 number_by insts id word (Some place) at known =
     let n = number_of (inst_at insts place) word (number_at insts place id word at known) in
-    ap is_value (meaning_at insts place id at ∙ constant_known_by (known_before insts place) (inst_at insts place) (ap is_constant (eqb-true (inst_at insts place).op op.CONSTANT n.0) ∙ constant_class))
+    ap is_object (meaning_at insts place id at ∙ constant_known_by (known_before insts place) (inst_at insts place) (ap is_constant (eqb-true (inst_at insts place).op op.CONSTANT n.0) ∙ constant_class))
 
 numbers_constant : (insts : List Inst) → AreNumbersConstant (typing_of insts)
 unfolding typing_of
@@ -266,10 +267,10 @@ all_uses_right words v place within =
     class_uses (typing_of insts) (sound_types insts) (numbers_constant insts) inst (class_of inst.op) refl (s.shaped place within)
     (λ uses no_store. ap is_shape (means insts (word_at 0 inst)) ∙ first_shaped words v place within uses no_store) (fit_class (typing_of insts) inst (s.fit place within))
 
--- ---- a value of a type that no instruction takes
+-- ---- a result of a type that no instruction takes
 
 pub record IsMisfit (insts : List Inst) (id : ℕ) : Type 0 where
-  pub value : is_value (meaning insts id) ≡ true
+  pub value : is_object (meaning insts id) ≡ true
   pub apart : is_taken_type (type_of (typing_of insts) id) ≡ false
 
 pub each_of : (P : ℕ → Type 0) (id : ℕ) (ids : List ℕ) → is_among id ids ≡ true → Each P ids → P id
@@ -280,9 +281,9 @@ each_of P id (own ∷ ids) among each = by_test (own == id) refl among (λ rest.
     by_test true same _ further = subst P (eqb-true own id same) each.0
     by_test false other rest further = further rest
 
--- only a load and a store use it
+-- only a load, a store and a chain use it
 pub misfit_used : (words : Words) (v : IsValidList words) (place id : ℕ) → place < length words.insts → IsMisfit words.insts id → is_among id (used_ids (inst_at words.insts place)) ≡ true → IsPointedTo (inst_at words.insts place) id
 misfit_used words v place id within m among = elim (each_of (IsUsable (typing_of words.insts) (inst_at words.insts place)) id (used_ids (inst_at words.insts place)) among (all_uses_right words v place within)) [
-  | inl taken ↦ clash (is_taken_type (type_of (typing_of words.insts) id)) (taken (ap is_value (means words.insts id) ∙ m.value)) m.apart
+  | inl taken ↦ clash (is_taken_type (type_of (typing_of words.insts) id)) (taken (ap is_object (means words.insts id) ∙ m.value)) m.apart
   | inr pointed ↦ pointed
 ]
