@@ -236,6 +236,7 @@ pub mod FoundSwitchArms
 pub mod FoundEntries
 pub mod FoundValues
 pub mod FoundResolved
+pub mod NamedIds
 pub mod FoundReduced
 pub mod FoundSooner
 pub mod ConstantChoices
