@@ -226,6 +226,9 @@ pub mod PhiPairsLeft
 pub mod NamesStand
 pub mod NamesSeen
 pub mod TypesNamed
+pub mod TakenOperands
+pub mod TakenParts
+pub mod TakenUses
 pub mod UsedLeft
 pub mod ChangedPhis
 pub mod ChangedVisible
@@ -236,6 +239,16 @@ pub mod FoundEntered
 pub mod FoundPairs
 pub mod FoundOnly
 pub mod FoundStays
+pub mod FoundNames
+pub mod FoundUses
+pub mod FoundUnused
+pub mod FoundCrossings
+pub mod FoundArms
+pub mod FoundSwitchArms
+pub mod FoundEntries
+pub mod FoundValues
+pub mod FoundResolved
+pub mod NamedIds
 pub mod FoundReduced
 pub mod FoundSooner
 pub mod FunctionPlaces
