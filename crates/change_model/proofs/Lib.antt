@@ -259,3 +259,4 @@ pub mod PlanChanges
 pub mod SpecializedLeft
 pub mod ConstantsSpecialized
 pub mod Rounds
+pub mod FoundWhole
