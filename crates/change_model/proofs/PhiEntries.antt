@@ -99,7 +99,7 @@ module _ (insts : List Inst) (scope : Scope) (from : ℕ) (end : BlockEnd) (o : 
       ]
     ]
 
-    somewhere : scope.phis ≡ Nowhere → ⊥
+    pub somewhere : scope.phis ≡ Nowhere → ⊥
     somewhere none =
         let e = o.place_is in
         let l = behind_label in
