@@ -223,7 +223,7 @@ chain_into typing type (Variable held storage) indices input fit =
     input_by typing (typing.meaning type) storage (chain_along typing (option_map part.Type (pointee_id (typing.meaning held))) indices) input fit
 chain_into typing type base indices input fit = cc
 
-zero_is_input : (insts : List Inst) (zeros : List ℕ) (id : ℕ) → is_zero_input insts zeros id ≡ true → is_input_of (meaning insts id) ≡ true
+pub zero_is_input : (insts : List Inst) (zeros : List ℕ) (id : ℕ) → is_zero_input insts zeros id ≡ true → is_input_of (meaning insts id) ≡ true
 zero_is_input insts zeros id is = first_of_three (is_input_of (meaning insts id)) (is_nothing (decoration_of insts id BUILT_IN)) (is_among_locations zeros (decoration_of insts id LOCATION)) is
   where
     first_of_three : (a b c : Bool) → (a && b && c) ≡ true → a ≡ true

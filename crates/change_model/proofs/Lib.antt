@@ -238,6 +238,7 @@ pub mod FoundValues
 pub mod FoundResolved
 pub mod NamedIds
 pub mod FoundReduced
+pub mod FoundInputs
 pub mod FoundSooner
 pub mod ConstantChoices
 pub mod PlanChanges
