@@ -46,7 +46,7 @@ label_words : (words : List ℕ) → result (instruction op.LABEL words) ≡ Som
 unfolding result entry_of
 label_words words = refl
 
-label_result : (inst : Inst) → inst.op == op.LABEL ≡ true → result inst ≡ Some (word_at 0 inst)
+pub label_result : (inst : Inst) → inst.op == op.LABEL ≡ true → result inst ≡ Some (word_at 0 inst)
 label_result inst is = at_op (λ (i : Inst). result i ≡ Some (word_at 0 i)) inst op.LABEL is (label_words inst.words)
 
 -- a terminator stands last in its block
@@ -140,7 +140,7 @@ module _ (f : Found) where
   -- ---- blocks
 
   -- the label of the block that a place is in stands before it
-  block_before : (at : ℕ) → at ≤ length f.words.insts → (block_at f.words.insts at ≡ 0) ⊎ ((l : ℕ) × (l < at) × (is_label_at f.words.insts l ≡ true) × (label_at f.words.insts l ≡ block_at f.words.insts at))
+  pub block_before : (at : ℕ) → at ≤ length f.words.insts → (block_at f.words.insts at ≡ 0) ⊎ ((l : ℕ) × (l < at) × (is_label_at f.words.insts l ≡ true) × (label_at f.words.insts l ≡ block_at f.words.insts at))
   block_before zero most = inl refl
   block_before (suc n) most =
       by_label (is_label_at insts n) refl (label_behind_next 0 insts n (inst_at insts n) (slice_get-get_or insts n no_instruction (omega (arith, most)))) (block_before n (omega (arith, most)))
@@ -153,19 +153,22 @@ module _ (f : Found) where
           let on = same ∙ ap (λ (b : Bool). if b then word_at 0 (inst_at insts n) else block_at insts n) isnt in
           elim before [ inl zero_is ↦ inl (on ∙ zero_is) | inr l ↦ (let low = l.1 in inr (l.0, omega (arith, low), l.2, l.3 ∙ sym on)) ]
 
-  -- no label is zero
-  label_some : (l : ℕ) → l < length f.words.insts → is_label_at f.words.insts l ≡ true → label_at f.words.insts l ≡ 0 → ⊥
+  -- no id that is given is zero
+  pub given_some : (place id : ℕ) → place < length f.words.insts → result (inst_at f.words.insts place) ≡ Some id → id ≡ 0 → ⊥
   unfolding id_out_of_bound
-  label_some l within is none =
-      let inst = inst_at insts l in
-      let bounded = true_of_result (λ id. nat_lt 0 id && nat_lt id f.words.bound) inst (word_at 0 inst) ((valid_sound f.words f.valid).shaped l within)
-      (not_false (list_all (λ id. nat_lt 0 id && nat_lt id f.words.bound) (ids inst)) (keeps_all f.words f.valid.sound l within).inside) (label_result inst is) in
-      let above = ltb-true 0 (word_at 0 inst) (first_of_both (nat_lt 0 (word_at 0 inst)) (nat_lt (word_at 0 inst) f.words.bound) bounded) in
+  given_some place id within gives none =
+      let inst = inst_at insts place in
+      let bounded = true_of_result (λ id. nat_lt 0 id && nat_lt id f.words.bound) inst id ((valid_sound f.words f.valid).shaped place within)
+      (not_false (list_all (λ id. nat_lt 0 id && nat_lt id f.words.bound) (ids inst)) (keeps_all f.words f.valid.sound place within).inside) gives in
+      let above = ltb-true 0 id (first_of_both (nat_lt 0 id) (nat_lt id f.words.bound) bounded) in
       omega (arith, above, none)
     where
       not_false : (b : Bool) → not b ≡ false → b ≡ true
       not_false true is = refl
       not_false false is = cc
+
+  label_some : (l : ℕ) → l < length f.words.insts → is_label_at f.words.insts l ≡ true → label_at f.words.insts l ≡ 0 → ⊥
+  label_some l within is none = given_some l (label_at insts l) within (label_result (inst_at insts l) is) none
 
   -- what stands before the end of the pair's block isn't in the block of the phi
   block_apart : (place : ℕ) (r : ResolvedPhi f place) → (at : ℕ) → at < r.end → block_at f.words.insts at ≡ block_at f.words.insts place → ⊥

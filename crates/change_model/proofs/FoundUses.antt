@@ -158,6 +158,10 @@ pub chain_inside : StandsInside op.ACCESS_CHAIN
 unfolding class_of entry_of
 chain_inside = record { no_level = refl; no_function = refl; no_end = refl; no_nothing = refl }
 
+pub label_inside : StandsInside op.LABEL
+unfolding class_of entry_of
+label_inside = record { no_level = refl; no_function = refl; no_end = refl; no_nothing = refl }
+
 pub switch_inside : StandsInside op.SWITCH
 unfolding class_of entry_of
 switch_inside = record { no_level = refl; no_function = refl; no_end = refl; no_nothing = refl }

@@ -239,6 +239,8 @@ pub mod FoundResolved
 pub mod NamedIds
 pub mod FoundReduced
 pub mod FoundInputs
+pub mod BlockIds
+pub mod FoundUnnamed
 pub mod FoundSooner
 pub mod ConstantChoices
 pub mod PlanChanges

@@ -43,7 +43,7 @@ or_right : (a b : Bool) → b ≡ true → (a || b) ≡ true
 or_right true b is = refl
 or_right false b is = is
 
-in_blocks : (pair : Incoming) (pairs : List Incoming) → In pair pairs → is_among pair.block (map (λ (p : Incoming). p.block) pairs) ≡ true
+pub in_blocks : (pair : Incoming) (pairs : List Incoming) → In pair pairs → is_among pair.block (map (λ (p : Incoming). p.block) pairs) ≡ true
 in_blocks pair [] has = absurd has
 in_blocks pair (own ∷ pairs) (inl same) = or_left (own.block == pair.block) _ (eq-eqb own.block pair.block (ap (λ (p : Incoming). p.block) same))
 in_blocks pair (own ∷ pairs) (inr more) = or_right (own.block == pair.block) _ (in_blocks pair pairs more)
