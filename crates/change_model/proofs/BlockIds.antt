@@ -1,12 +1,10 @@
 -- Which ids the instructions of blocks name: labels, conditions and selectors, and the values of phis and the blocks that they come from.
-use Rattle.std.proofs.Common.{◌≡◌, ℕ, zero, suc, ◌+◌, ◌-◌, ◌<◌, ◌≤◌, ◌⊎◌, inl, inr, Bool, true, false, not, ◌==◌, ◌||◌, ◌&&◌, ◌%◌, if◌then◌else◌, List, [], ◌∷◌, length, map, take, refl, ap, sym, ◌∙◌, subst, arith, Option, None, Some, is_some}
-use Rattle.std.specs.Prelude.{filter}
-use Rattle.std.specs.List.{list_any, list_all, range_with_len}
+use Rattle.std.proofs.Common.{◌≡◌, ℕ, suc, ◌⊎◌, inl, inr, Bool, true, false, ◌==◌, ◌||◌, ◌%◌, if◌then◌else◌, List, [], ◌∷◌, length, map, refl, ap, sym, ◌∙◌, arith, Option, None, Some}
+use Rattle.std.specs.List.{list_all}
 use Rattle.std.specs.Option.{option_map}
-use Rattle.std.proofs.lemmas.Bool.{cases_lt, eqb-true, eq-eqb}
+use Rattle.std.proofs.lemmas.Bool.{eqb-true}
 use Rattle.std.proofs.lemmas.Bool.Decides.{nat_tests}
 use Rattle.spirv_model.specs.declared.module.Inst.{Inst}
-use Rattle.spirv_model.specs.declared.class.Class.{Class}
 use Rattle.spirv_model.specs.declared.class.Class.TheVariants as class
 use Rattle.spirv_model.specs.declared.op.TheConstants as op
 use Rattle.spirv_model.specs.declared.table.TheConstants.{ROWS}
@@ -15,20 +13,18 @@ use Rattle.spirv_model.specs.declared.table.Operand.TheVariants.{IdResultType, I
 use Rattle.spirv_model.specs.declared.table.Rest.{Rest}
 use Rattle.spirv_model.specs.declared.table.Rest.TheVariants.{Nothing}
 use Rattle.spirv_model.specs.declared.table.Entry.{Entry}
-use Rattle.spirv_model.specs.declared.table.Entry.TheVariants.{Listed, Skipped, Float}
-use Rattle.spirv_model.specs.Operands.{word_at, words_from, entry_of, class_in, class_of, literal_and_id, kinds_from, listed_of, kinds_in, kinds, ids, result}
-use Rattle.body_model.specs.Classes.{is_module_level, is_plain_class, is_terminator_class, is_terminator}
+use Rattle.spirv_model.specs.declared.table.Entry.TheVariants.{Listed}
+use Rattle.spirv_model.specs.Operands.{word_at, entry_of, class_in, class_of, literal_and_id, kinds_from, listed_of, kinds_in, kinds}
+use Rattle.body_model.specs.Classes.{is_terminator_class, is_terminator}
 use Rattle.body_model.specs.Switches.{is_among, Case, cases_in}
 use Rattle.body_model.specs.Targets.{targets_by, targets}
-use Rattle.valid_model.specs.Definitions.{inst_at, definition}
-use Rattle.check_model.specs.Visibility.{Incoming, incoming_in, incoming, uses_operands, used_among, used_by, is_choice, used_ids}
+use Rattle.check_model.specs.Visibility.{Incoming, incoming_in, incoming, used_among, used_by, used_ids}
 use Rattle.typed_model.proofs.EffectsRun.{instruction}
 use Rattle.typed_model.proofs.PlainRuns.{at_op}
 use Rattle.typed_model.proofs.ResultIds.{in_rows}
 use Rattle.change_model.specs.PlanRules.{merge_labels}
 use Rattle.change_model.proofs.PhiPairsLeft.{In}
 use Rattle.change_model.proofs.PlanRunsRenamed.{all_used}
-use Rattle.change_model.proofs.TakenOperands.{clash}
 
 either : {Q : Type 0} (a b : Bool) → (a || b) ≡ true → (a ≡ true → Q) → (b ≡ true → Q) → Q
 either true b is here there = here refl

@@ -1,22 +1,18 @@
 -- Where one pass finds that all stays, no instruction uses an input that is zero.
-use Rattle.std.proofs.Common.{◌≡◌, ℕ, ◌+◌, ◌-◌, ◌<◌, ◌≤◌, inl, inr, Bool, true, false, not, ◌==◌, ◌||◌, ◌&&◌, if◌then◌else◌, List, [], ◌∷◌, length, take, refl, ap, sym, ◌∙◌, arith, Option, None, Some}
+use Rattle.std.proofs.Common.{◌≡◌, ℕ, ◌-◌, ◌<◌, Bool, true, false, not, ◌==◌, if◌then◌else◌, List, length, take, refl, ap, sym, ◌∙◌, arith, Option, None, Some}
 use Rattle.std.specs.List.{list_any}
-use Rattle.std.proofs.lemmas.Bool.{cases_lt, eqb-true, eq-eqb}
+use Rattle.std.proofs.lemmas.Bool.{eqb-true, eq-eqb}
 use Rattle.basics.specs.Word.{are_equal}
 use Rattle.spirv_model.specs.declared.module.Inst.{Inst}
 use Rattle.spirv_model.specs.declared.op.TheConstants as op
 use Rattle.spirv_model.specs.declared.storage_class.TheConstants as storage_class
-use Rattle.spirv_model.specs.declared.decoration.TheConstants.{LOCATION, BUILT_IN}
 use Rattle.spirv_model.specs.Operands.{word_at}
 use Rattle.body_model.specs.Switches.{is_among}
 use Rattle.valid_model.specs.declared.meaning.Meaning.{Meaning}
-use Rattle.valid_model.specs.declared.meaning.Meaning.TheVariants.{Absent, Shape as OfShape, Variable}
+use Rattle.valid_model.specs.declared.meaning.Meaning.TheVariants.{Shape as OfShape, Variable}
 use Rattle.valid_model.specs.declared.meaning.Shape.TheVariants.{Pointer}
-use Rattle.valid_model.specs.DecorationWords.{decoration_of}
 use Rattle.valid_model.specs.Definitions.{definition, inst_at}
-use Rattle.valid_model.specs.Knowledge.{meaning_in}
 use Rattle.valid_model.specs.Meanings.{known_before, meaning}
-use Rattle.valid_model.proofs.KnownIds.{unknown_without_definition}
 use Rattle.check_model.specs.EntryPoints.{is_op_function}
 use Rattle.check_model.specs.Intervals.{intervals_of}
 use Rattle.check_model.specs.Storage.{is_in_function, points_to_read_only, is_wrong_storage}
@@ -24,19 +20,17 @@ use Rattle.check_model.specs.Typing.{typing_of, type_id, meaning_of, type_of}
 use Rattle.check_model.specs.Validity.{has_wrong_storage}
 use Rattle.check_model.specs.Visibility.{used_ids}
 use Rattle.stage_model.specs.Program.{program_of}
-use Rattle.typed_model.proofs.FunctionRuns.{function_within}
 use Rattle.typed_model.proofs.ModuleValues.{meaning_at}
 use Rattle.typed_model.proofs.ValidModules.{valid_stored}
 use Rattle.typed_model.proofs.ValidTypes.{valid_types, makes_variable, MakesVariable, defined_within}
 use Rattle.change_model.specs.declared.fate.Fate.TheVariants as fate
 use Rattle.change_model.specs.Plans.{is_dead}
-use Rattle.change_model.specs.PlanRules.{root_by, root_of, is_input_of, is_among_locations, is_nothing, is_zero_input}
+use Rattle.change_model.specs.PlanRules.{root_by, root_of, is_input_of, is_zero_input}
 use Rattle.change_model.specs.Passes.{fate_alive}
 use Rattle.change_model.proofs.ChangedDecorated.{any_there}
 use Rattle.change_model.proofs.FoldedKeeps.{function_op}
 use Rattle.change_model.proofs.FoundOrigins.{alive_fate, dead_fate}
 use Rattle.change_model.proofs.FoundPlans.{Found}
-use Rattle.change_model.proofs.FoundReduced.{StaysAll}
 use Rattle.change_model.proofs.FoundUnused.{zero_is_input, null_goes}
 use Rattle.change_model.proofs.FoundUses.{chain_inside, store_inside, stands_inside}
 use Rattle.change_model.proofs.LeftScopes.{is_label_at}

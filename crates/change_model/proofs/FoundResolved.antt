@@ -1,7 +1,7 @@
 -- What stands for a phi that goes is defined before it, visible there by the intervals that are left, and not given in its block.
-use Rattle.std.proofs.Common.{◌≡◌, ℕ, zero, suc, ◌+◌, ◌-◌, ◌<◌, ◌≤◌, ◌⊎◌, inl, inr, Bool, true, false, not, ◌==◌, ◌||◌, ◌&&◌, nat_lt, if◌then◌else◌, List, [], ◌∷◌, length, take, refl, ap, sym, ◌∙◌, subst, arith, Option, None, Some}
+use Rattle.std.proofs.Common.{◌≡◌, ℕ, zero, suc, ◌<◌, ◌≤◌, ◌⊎◌, inl, inr, Bool, true, false, not, ◌==◌, ◌||◌, ◌&&◌, nat_lt, if◌then◌else◌, List, [], ◌∷◌, length, refl, ap, sym, ◌∙◌, subst, arith, Option, Some}
 use Rattle.std.specs.List.{list_all}
-use Rattle.std.proofs.lemmas.Bool.{cases_lt, eqb-true, ltb-true, ne_eqb}
+use Rattle.std.proofs.lemmas.Bool.{ltb-true, ne_eqb}
 use Rattle.std.proofs.lemmas.Option.{slice_get-get_or}
 use Rattle.basics.proofs.Bools.{first_of_both, second_of_both}
 use Rattle.spirv_model.specs.declared.module.Inst.{Inst}
@@ -11,9 +11,8 @@ use Rattle.spirv_model.specs.declared.class.Class.{Class}
 use Rattle.spirv_model.specs.declared.class.Class.TheVariants as class
 use Rattle.body_model.specs.Classes.{is_plain_class, is_terminator_class, is_terminator}
 use Rattle.valid_model.specs.Definitions.{definition, inst_at, no_instruction, id_out_of_bound}
-use Rattle.check_model.specs.Branches.{label_behind}
 use Rattle.check_model.specs.Intervals.{Interval, intervals_of, is_visible}
-use Rattle.check_model.specs.Visibility.{Incoming}
+use Rattle.check_model.specs.Visibility.{Incoming, incoming}
 use Rattle.typed_model.proofs.EffectsRun.{instruction}
 use Rattle.typed_model.proofs.PlainRuns.{at_op}
 use Rattle.typed_model.proofs.BlockParts.{another}
@@ -21,10 +20,9 @@ use Rattle.typed_model.proofs.BlockLists.{label_behind_next}
 use Rattle.typed_model.proofs.FunctionRuns.{function_within}
 use Rattle.typed_model.proofs.TypedSteps.{seen}
 use Rattle.typed_model.proofs.ValidModules.{valid_sound}
-use Rattle.typed_model.proofs.ValidTypes.{defined_within}
 use Rattle.change_model.specs.declared.fate.Fate.TheVariants as fate
-use Rattle.change_model.specs.Plans.{block_at}
-use Rattle.change_model.specs.PlanRules.{intervals_left, is_constant_fate, IsResolvedId}
+use Rattle.change_model.specs.Plans.{predecessors_left, block_at}
+use Rattle.change_model.specs.PlanRules.{intervals_left, is_constant_fate, pairs_in, IsResolved, IsResolvedId}
 use Rattle.change_model.specs.Passes.{keeps_phis, is_there, stands_at, pairs_found}
 use Rattle.change_model.proofs.ConstantsSound.{keeps_all}
 use Rattle.change_model.proofs.FoundGoes.{still_leads}
@@ -234,3 +232,22 @@ module _ (f : Found) where
   -- of the one pair that is found where a phi goes
   pub resolved_value : (place : ℕ) (pair : Incoming) → f.plan.fate place ≡ fate.Resolves → pairs_found f.plan f.words.insts place ≡ pair ∷ [] → ResolvedValue place pair
   resolved_value place pair goes only = let r = resolved f place goes in subst (ResolvedValue place) (one_pair r.pair pair (sym r.only ∙ only)) (value_of place r)
+
+  -- where this is the one pair that is left
+  pub is_resolved : (place : ℕ) (pair : Incoming) → f.plan.fate place ≡ fate.Resolves → pairs_found f.plan f.words.insts place ≡ pair ∷ []
+      → pairs_in (predecessors_left f.plan f.words.insts (block_at f.words.insts place)) (incoming (inst_at f.words.insts place)) ≡ pair ∷ [] → IsResolved f.plan f.words.insts (intervals_of f.valid.derivation) place
+  is_resolved place pair goes found only =
+      let v = resolved_value place pair goes found in
+      record {
+        pair = pair;
+        is_phi = (resolved f place goes).is_phi;
+        only = only;
+        origin = v.origin;
+        given = v.given;
+        earlier = v.earlier;
+        stands = v.stands;
+        at = v.at;
+        defined = v.defined;
+        visible = v.visible;
+        apart = v.apart;
+      }

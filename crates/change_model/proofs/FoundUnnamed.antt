@@ -1,5 +1,5 @@
 -- Where one pass finds that all stays, no instruction of the function names an input that is zero.
-use Rattle.std.proofs.Common.{◌≡◌, ℕ, zero, suc, ◌+◌, ◌-◌, ◌<◌, ◌≤◌, ◌⊎◌, inl, inr, Bool, true, false, not, ◌==◌, ◌||◌, ◌&&◌, if◌then◌else◌, List, [], ◌∷◌, length, take, refl, ap, sym, ◌∙◌, arith, Option, None, Some, is_some}
+use Rattle.std.proofs.Common.{◌≡◌, ℕ, zero, suc, ◌+◌, ◌<◌, ◌⊎◌, inl, inr, Bool, true, false, not, ◌==◌, ◌||◌, ◌&&◌, if◌then◌else◌, List, [], ◌∷◌, length, take, refl, ap, sym, ◌∙◌, arith, Option, None, Some}
 use Rattle.std.specs.Prelude.{filter}
 use Rattle.std.specs.List.{list_any, list_all, range_with_len}
 use Rattle.std.proofs.lemmas.Bool.{cases_lt, eqb-true, eq-eqb}
@@ -7,10 +7,9 @@ use Rattle.spirv_model.specs.declared.module.Inst.{Inst}
 use Rattle.spirv_model.specs.declared.class.Class.{Class}
 use Rattle.spirv_model.specs.declared.class.Class.TheVariants as class
 use Rattle.spirv_model.specs.declared.op.TheConstants as op
-use Rattle.spirv_model.specs.Operands.{word_at, entry_of, class_of, kinds, ids, result}
+use Rattle.spirv_model.specs.Operands.{word_at, entry_of, class_of, kinds, ids}
 use Rattle.body_model.specs.Classes.{is_module_level, is_plain_class}
 use Rattle.body_model.specs.Switches.{is_among}
-use Rattle.body_model.specs.Targets.{targets}
 use Rattle.valid_model.specs.declared.meaning.Meaning.{Meaning}
 use Rattle.valid_model.specs.declared.meaning.Meaning.TheVariants.{Absent, Variable}
 use Rattle.valid_model.specs.Definitions.{inst_at, definition}
@@ -20,19 +19,18 @@ use Rattle.valid_model.proofs.KnownIds.{unknown_without_definition}
 use Rattle.check_model.specs.EntryPoints.{is_op_function}
 use Rattle.check_model.specs.Storage.{is_in_function}
 use Rattle.check_model.specs.Typing.{typing_of, type_id, meaning_of, type_of}
-use Rattle.check_model.specs.Visibility.{Incoming, incoming, uses_operands, used_by, used_ids}
+use Rattle.check_model.specs.Visibility.{Incoming, incoming, uses_operands}
 use Rattle.stage_model.proofs.StageRuns.{nowhere}
 use Rattle.typed_model.proofs.BlockParts.{BlockPart, a_label, a_phi, a_variable, a_selection_merge, a_loop_merge, a_plain_one, a_terminator, another}
 use Rattle.typed_model.proofs.EffectsRun.{instruction}
 use Rattle.typed_model.proofs.FunctionRuns.{part_at, function_within}
 use Rattle.typed_model.proofs.PlainRuns.{at_op}
 use Rattle.typed_model.proofs.ValidTypes.{defined_within}
-use Rattle.unit_model.specs.ConstantScalars.{function_places}
 use Rattle.change_model.specs.declared.fate.Fate.TheVariants as fate
 use Rattle.change_model.specs.PlanRules.{merge_labels, is_shape, is_zero_input}
 use Rattle.change_model.specs.Specialised.{names_no_zeros}
 use Rattle.change_model.proofs.BehindLevel.{end_op}
-use Rattle.change_model.proofs.BlockIds.{Names, EndsWith, InPairs, label_names, selection_names, loop_names, end_names, phi_words}
+use Rattle.change_model.proofs.BlockIds.{Names, InPairs, label_names, selection_names, loop_names, end_names, phi_words}
 use Rattle.change_model.proofs.ConditionNames.{target_names, merge_names}
 use Rattle.change_model.proofs.FoundFits.{phi_typed}
 use Rattle.change_model.proofs.FoundInputs.{ZeroInput, zero_input, input_misfit, input_early, used_none}

@@ -229,6 +229,7 @@ pub mod ChangedPhis
 pub mod ChangedVisible
 pub mod FoundNames
 pub mod FoundUses
+pub mod FoundMisfits
 pub mod FoundUnused
 pub mod FoundCrossings
 pub mod FoundArms

@@ -1,5 +1,5 @@
 -- The ids of an instruction: its result, and what its other operands are.
-use Rattle.std.proofs.Common.{◌≡◌, ℕ, zero, suc, ◌==◌, ◌||◌, ◌&&◌, ◌⊎◌, inl, inr, Bool, true, false, not, if◌then◌else◌, List, [], ◌∷◌, ◌++◌, length, map, drop, slice_index, refl, ap, sym, ◌∙◌, Option, None, Some, is_some}
+use Rattle.std.proofs.Common.{◌≡◌, ℕ, zero, suc, ◌==◌, ◌||◌, ◌⊎◌, inl, inr, Bool, true, false, not, if◌then◌else◌, List, [], ◌∷◌, ◌++◌, map, drop, slice_index, refl, ap, sym, ◌∙◌, Option, None, Some}
 use Rattle.std.specs.Prelude.{replicate}
 use Rattle.std.specs.List.{list_all}
 use Rattle.std.specs.Option.{option_map}
@@ -13,7 +13,7 @@ use Rattle.spirv_model.specs.declared.table.Rest.{Rest}
 use Rattle.spirv_model.specs.declared.table.Rest.TheVariants.{Nothing, IdRefs, LiteralIntegers, PairsIdRefIdRef, PairsLiteralIntegerIdRef}
 use Rattle.spirv_model.specs.declared.table.Entry.{Entry}
 use Rattle.spirv_model.specs.declared.table.Entry.TheVariants.{Listed, Skipped, Float}
-use Rattle.spirv_model.specs.Operands.{word_at, entry_of, operand_words, literal_and_id, rest_kinds, kinds_from, listed_of, kinds_in, kinds, ids_among, ids_by, ids, result_place, result_in, result}
+use Rattle.spirv_model.specs.Operands.{entry_of, operand_words, literal_and_id, rest_kinds, kinds_from, listed_of, kinds_in, kinds, ids_among, ids_by, ids, result_place, result_in, result}
 use Rattle.body_model.specs.Switches.{is_among}
 use Rattle.check_model.specs.Visibility.{used_among, used_by}
 use Rattle.typed_model.proofs.ResultIds.{in_rows}
