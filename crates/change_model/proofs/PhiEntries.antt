@@ -170,11 +170,8 @@ module _ (insts : List Inst) (once : LabelsOnce insts) (d : Derives insts) where
           let l = p.low in
           let label = due_label insts None after (due_of rest) in
           phi_at rest (placed.placed_next insts once d scope wanted next from to after here is rest p)
-          (inr (
-            omega (arith, f', l),
-            by_one after (begins insts once d scope next from to (inside rest) p after f' g label wanted (way.GoesOn after) here is tt f.within (λ q least less named. omega (arith, least, less))
-                (unmerged_by scope wanted from (way.GoesOn after) here is tt (label_at insts after) (λ none. none) (λ none. none))),
-          )) place late high phi
+          (inr (omega (arith, f', l), by_one after (begins insts once d scope next from to (inside rest) p after f' g label wanted (way.GoesOn after) here is tt f.within (λ q least less named. omega (arith, least, less))
+          (unmerged_by scope wanted from (way.GoesOn after) here is tt (label_at insts after) (λ none. none) (λ none. none))))) place late high phi
     ]
     phi_at {scope} {wanted} {next} {from} {to} (selects head second join here is on_true on_false rest) p given place low high phi =
         let f = (sound_at insts scope from (way.Selects head) is).0 in
@@ -190,32 +187,23 @@ module _ (insts : List Inst) (once : LabelsOnce insts) (d : Derives insts) where
           | inl early ↦ in_first scope wanted from (way.Selects head) here is tt given place low early phi
           | inr late ↦ elim (cases_lt place second) [
             | inl first ↦ arm_phi on_true (placed.placed_true insts once d scope wanted next from to head second join here is on_true on_false rest p)
-                (λ label less. (
-                  omega (arith, f', l),
-                  by_one head.after (begins insts once d scope next from to _ p head.after f' (omega (arith, a, b, g)) label wanted (way.Selects head) here is tt f.within (λ q least behind named. omega (arith, least, behind))
-                      (first_unmerged head.after label (λ same. omega (arith, same, less, b)))),
-                )) place late first phi
+                (λ label less. (omega (arith, f', l), by_one head.after (begins insts once d scope next from to _ p head.after f' (omega (arith, a, b, g)) label wanted (way.Selects head) here is tt f.within (λ q least behind named. omega (arith, least, behind))
+                (first_unmerged head.after label (λ same. omega (arith, same, less, b)))))) place late first phi
             | inr past ↦ elim (cases_lt place join) [
               | inl other ↦ arm_phi on_false (placed.placed_false insts once d scope wanted next from to head second join here is on_true on_false rest p)
-                  (λ label less. (
-                    omega (arith, f', l, a),
-                    by_one head.after (begins insts once d scope next from to _ p second (omega (arith, f', a)) (omega (arith, b, g)) label wanted (way.Selects head) here is tt f.within
-                        (λ q least behind named. arm_silent insts once d scope next from to _ p second (omega (arith, f', a)) (omega (arith, b, g)) label join on_true merge (λ same. omega (arith, same, less)) (inr (omega arith)) q least behind named)
-                        (first_unmerged second label (λ same. omega (arith, same, less)))),
-                  )) place past other phi
+                  (λ label less. (omega (arith, f', l, a), by_one head.after (begins insts once d scope next from to _ p second (omega (arith, f', a)) (omega (arith, b, g)) label wanted (way.Selects head) here is tt f.within
+                  (λ q least behind named. arm_silent insts once d scope next from to _ p second (omega (arith, f', a)) (omega (arith, b, g)) label join on_true merge (λ same. omega (arith, same, less)) (inr (omega arith)) q least behind named)
+                  (first_unmerged second label (λ same. omega (arith, same, less)))))) place past other phi
               | inr beyond ↦
                   let label = due_label insts (Some head.merge) join (due_of rest) in
                   let here_to : from < join = omega (arith, f', a, b) in
                   phi_at rest (placed.placed_merge insts once d scope wanted next from to head second join here is on_true on_false rest p)
-                  (inr (
-                    omega (arith, f', a, b, l),
-                    by_selection
-                        (record { scope = scope; wanted = wanted; next = next; from = from; to = to; head = head; second = second; here = here; is = is; on_true = on_true; on_false = on_false; rest = rest; placed = p })
-                        (unlooped insts once d scope next from to _ p join here_to g label wanted (way.Selects head) here is tt f.within (λ none. none) (λ q least less among. elim (cases_lt q second) [
-                          | inl in_true ↦ arm_unmerged insts once d scope next from to _ p join here_to g label on_true b q least in_true among
-                          | inr in_false ↦ arm_unmerged insts once d scope next from to _ p join here_to g label on_false (omega arith) q in_false less among
-                        ])),
-                  )) place beyond high phi
+                  (inr (omega (arith, f', a, b, l), by_selection
+                  (record { scope = scope; wanted = wanted; next = next; from = from; to = to; head = head; second = second; here = here; is = is; on_true = on_true; on_false = on_false; rest = rest; placed = p })
+                  (unlooped insts once d scope next from to _ p join here_to g label wanted (way.Selects head) here is tt f.within (λ none. none) (λ q least less among. elim (cases_lt q second) [
+                    | inl in_true ↦ arm_unmerged insts once d scope next from to _ p join here_to g label on_true b q least in_true among
+                    | inr in_false ↦ arm_unmerged insts once d scope next from to _ p join here_to g label on_false (omega arith) q in_false less among
+                  ])))) place beyond high phi
             ]
           ]
         ]
@@ -230,24 +218,18 @@ module _ (insts : List Inst) (once : LabelsOnce insts) (d : Derives insts) where
           | inl early ↦ in_first scope wanted from (way.Picks head) here is tt given place low early phi
           | inr late ↦ elim (cases_lt place join) [
             | inl within ↦ arms_phi {join = join} head.after arms (placed_switch.placed_arms insts once d scope wanted next from to head join here is arms rest p)
-                (λ part between earlier label least less. (
-                  omega (arith, f', l, least),
-                  by_one head.after (begins insts once d scope next from to _ p between (omega (arith, f', least)) (omega (arith, less, g)) label wanted (way.Picks head) here is tt f.within
-                      (λ q behind before named. arms_silent insts once d scope next from to _ p between (omega (arith, f', least)) (omega (arith, less, g)) label join earlier merge (λ same. omega (arith, same, less)) (omega arith) q behind before named)
-                      (unmerged_by scope wanted from (way.Picks head) here is tt (label_at insts between) (λ same. other_merge between join head.merge (due_of rest) label (λ same. omega (arith, same, less)) same) (λ none. none))),
-                ))
+                (λ part between earlier label least less. (omega (arith, f', l, least), by_one head.after (begins insts once d scope next from to _ p between (omega (arith, f', least)) (omega (arith, less, g)) label wanted (way.Picks head) here is tt f.within
+                (λ q behind before named. arms_silent insts once d scope next from to _ p between (omega (arith, f', least)) (omega (arith, less, g)) label join earlier merge (λ same. omega (arith, same, less)) (omega arith) q behind before named)
+                (unmerged_by scope wanted from (way.Picks head) here is tt (label_at insts between) (λ same. other_merge between join head.merge (due_of rest) label (λ same. omega (arith, same, less)) same) (λ none. none)))))
                 (omega arith) place late within phi
             | inr beyond ↦
                 let label = due_label insts (Some head.merge) join (due_of rest) in
                 let here_to : from < join = omega (arith, f', a) in
                 phi_at rest (placed_switch.placed_join insts once d scope wanted next from to head join here is arms rest p)
-                (inr (
-                  omega (arith, f', a, l),
-                  by_switch
-                      (record { scope = scope; wanted = wanted; next = next; from = from; to = to; head = head; here = here; is = is; arms = arms; rest = rest; placed = p })
-                      (unlooped insts once d scope next from to _ p join here_to g label wanted (way.Picks head) here is tt f.within (λ none. none)
-                      (λ q least less among. arms_unmerged insts once d scope next from to _ p join here_to g label arms (omega arith) q least less among)),
-                )) place beyond high phi
+                (inr (omega (arith, f', a, l), by_switch
+                (record { scope = scope; wanted = wanted; next = next; from = from; to = to; head = head; here = here; is = is; arms = arms; rest = rest; placed = p })
+                (unlooped insts once d scope next from to _ p join here_to g label wanted (way.Picks head) here is tt f.within (λ none. none)
+                (λ q least less among. arms_unmerged insts once d scope next from to _ p join here_to g label arms (omega arith) q least less among)))) place beyond high phi
           ]
         ]
     phi_at {scope} {wanted} {next} {from} {to} (loops head inner first second third here is tested within step rest) p given place low high phi =
@@ -264,14 +246,11 @@ module _ (insts : List Inst) (once : LabelsOnce insts) (d : Derives insts) where
             | inl one ↦
                 let label = due_label insts (Some head.test) head.after (due_of tested) in
                 phi_at tested (placed_loop.placed_test insts once d scope wanted next from to head inner first second third here is tested within step rest p)
-                (inr (
-                  omega (arith, f', l),
-                  by_one head.after (begins insts once d scope next from to _ p head.after f' (omega (arith, t, q, r, g)) label wanted (way.Loops head) here is tt f.within (λ q least less named. omega (arith, least, less))
-                      (λ at least less among. elim (block_merges insts scope from (way.Loops head) (old_block insts scope wanted from (way.Loops head) here is tt) tt at (label_at insts head.after) least less (by_merge among)) [
-                        | inl same ↦ other_merge head.after third head.merge (due_of rest) label (λ same. omega (arith, same, t, q, r)) same
-                        | inr same ↦ other_merge head.after second head.next (due_of step) label (λ same. omega (arith, same, t, q)) same
-                      ])),
-                )) place late one phi
+                (inr (omega (arith, f', l), by_one head.after (begins insts once d scope next from to _ p head.after f' (omega (arith, t, q, r, g)) label wanted (way.Loops head) here is tt f.within (λ q least less named. omega (arith, least, less))
+                (λ at least less among. elim (block_merges insts scope from (way.Loops head) (old_block insts scope wanted from (way.Loops head) here is tt) tt at (label_at insts head.after) least less (by_merge among)) [
+                  | inl same ↦ other_merge head.after third head.merge (due_of rest) label (λ same. omega (arith, same, t, q, r)) same
+                  | inr same ↦ other_merge head.after second head.next (due_of step) label (λ same. omega (arith, same, t, q)) same
+                ])))) place late one phi
             | inr past ↦ elim (cases_lt place second) [
               | inl two ↦ phi_at within (placed_loop.placed_body insts once d scope wanted next from to head inner first second third here is tested within step rest p) (inl refl) place past two phi
               | inr further ↦ elim (cases_lt place third) [
