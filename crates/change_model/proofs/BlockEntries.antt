@@ -1,5 +1,5 @@
 -- How control comes to a block that may have phis: by one branch, or as the merge block of a selection or an OpSwitch.
-use Rattle.std.proofs.Common.{◌≡◌, ℕ, ◌+◌, ◌<◌, ◌≤◌, ◌⊎◌, inl, inr, Bool, true, false, ◌==◌, ◌||◌, if◌then◌else◌, List, [], ◌∷◌, ◌++◌, length, refl, ap, sym, ◌∙◌, arith, Option, None, Some}
+use Rattle.std.proofs.Common.{◌≡◌, ℕ, ◌+◌, ◌<◌, ◌≤◌, ◌⊎◌, inl, inr, Bool, true, false, ◌==◌, ◌||◌, if◌then◌else◌, List, [], ◌∷◌, ◌++◌, length, refl, sym, ◌∙◌, arith, Option, None, Some}
 use Rattle.std.proofs.lemmas.Bool.{cases_lt, eqb-true}
 use Rattle.spirv_model.specs.declared.module.Inst.{Inst}
 use Rattle.spirv_model.specs.declared.op.TheConstants as op
@@ -14,7 +14,7 @@ use Rattle.body_model.specs.Scope.{Scope, behind_selection, arm, switch_arm}
 use Rattle.body_model.specs.Switches.{is_among, without, labels_of}
 use Rattle.body_model.specs.Targets.{targets, MayLeaveTo}
 use Rattle.body_model.specs.Grammar.{Sequence, Arm, straight, through, Arms, no_arm, arm_behind, Derives}
-use Rattle.body_model.proofs.Forward.{forward, arms_forward}
+use Rattle.body_model.proofs.Forward.{forward}
 use Rattle.body_model.proofs.Shapes.{IsWhole, after_of}
 use Rattle.valid_model.specs.Definitions.{inst_at}
 use Rattle.check_model.specs.Intervals.{Interval, inside, of_arm, of_arms}

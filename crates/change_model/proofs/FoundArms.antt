@@ -28,7 +28,7 @@ use Rattle.change_model.proofs.LeftPlaced.{IsArmPlaced, stands_at_due}
 use Rattle.change_model.proofs.LeftPlacedWhole.{labels_once}
 use Rattle.change_model.proofs.LeftQuiet.{NoWay, unnamed_inside}
 use Rattle.change_model.proofs.LeftScopes.{is_label_at, label_at, names, StandsNot, Placed}
-use Rattle.change_model.proofs.PhiEntries.{unmerged_by}
+use Rattle.change_model.proofs.ArmEntries.{unmerged_by}
 
 test_label : {Q : Type 0} (b : Bool) → (b ≡ true → Q) → (b ≡ false → Q) → Q
 test_label true f g = f refl
@@ -81,7 +81,7 @@ module _ (f : Found) (place end : ℕ) (w : Into f place end) where
         let s = stands_at_due insts target target cut refl due in
         begins insts (labels_once f.words f.valid) d scope next from to (of_arm on_true ++ (of_arm on_false ++ inside rest)) p cut (omega (arith, g', low)) (omega (arith, less, h)) s.is_label wanted (way.Selects head) here is tt g.within
         (λ q least under named. silent q least under named)
-        (λ q least under among. unmerged_by insts (labels_once f.words f.valid) d scope wanted from (way.Selects head) here is tt (label_at insts cut) (λ merges. isnt (sym s.own ∙ merges)) (λ none. none) q least under among)
+        (λ q least under among. unmerged_by insts scope wanted from (way.Selects head) here is tt (label_at insts cut) (λ merges. isnt (sym s.own ∙ merges)) (λ none. none) q least under among)
 
     -- the label is that of the merge block
     merges : (low to : ℕ) {target : ℕ} → Sequence f.words.insts (arm scope head.merge) (Some target) low to None → is_label_at f.words.insts to ≡ true → from ≤ low → to ≤ place → low ≤ end → end < to → label_at f.words.insts w.at ≡ head.merge

@@ -40,7 +40,7 @@ use Rattle.change_model.proofs.LeftPlaced.{stands_at_due}
 use Rattle.change_model.proofs.LeftPlacedArms.{PlacedArm}
 use Rattle.change_model.proofs.LeftPlacedWhole.{labels_once}
 use Rattle.change_model.proofs.LeftScopes.{is_label_at, label_at, Placed}
-use Rattle.change_model.proofs.PhiEntries.{unmerged_by}
+use Rattle.change_model.proofs.ArmEntries.{unmerged_by}
 use Rattle.change_model.proofs.TakenOperands.{clash}
 
 -- what is nested in a sequence lies behind its first label
@@ -183,7 +183,7 @@ module _ (f : Found) (place end : ℕ) (w : Into f place end) where
         let other : cut ≡ join → ⊥ = (λ same. omega (arith, same, less)) in
         begins insts once d scope next from to all p cut (omega (arith, g', low)) (omega (arith, less, h)) label wanted (way.Picks head) here is tt g.within
         (λ q least under named. arms_silent insts once d scope next from to all p cut (omega (arith, g', low)) (omega (arith, less, h)) label join earlier merge other (omega arith) q least under named)
-        (λ q least under among. unmerged_by insts once d scope wanted from (way.Picks head) here is tt (label_at insts cut) (λ same. other (once cut join label merge.is_label (same ∙ sym merge.own))) (λ none. none) q least under among)
+        (λ q least under among. unmerged_by insts scope wanted from (way.Picks head) here is tt (label_at insts cut) (λ same. other (once cut join label merge.is_label (same ∙ sym merge.own))) (λ none. none) q least under among)
 
     merges : (own low past : ℕ) → Sequence f.words.insts (switch_arm scope head.merge (without own (labels_of f.words.insts head))) (Some own) low past None → is_label_at f.words.insts past ≡ true → from ≤ low → past ≤ place → low ≤ end → end < past
         → label_at f.words.insts w.at ≡ head.merge

@@ -1,5 +1,5 @@
 -- A phi stands behind the label of a block to which one branch leads before it, or which is the merge block of a selection or an OpSwitch.
-use Rattle.std.proofs.Common.{◌≡◌, ℕ, ◌+◌, ◌<◌, ◌≤◌, ◌⊎◌, inl, inr, Bool, true, false, ◌==◌, List, [], ◌∷◌, ◌++◌, length, drop, slice_index, refl, ap, sym, ◌∙◌, subst, arith, Option, None, Some}
+use Rattle.std.proofs.Common.{◌≡◌, ℕ, ◌+◌, ◌<◌, ◌≤◌, ◌⊎◌, inl, inr, Bool, true, false, ◌==◌, List, [], ◌∷◌, ◌++◌, length, drop, slice_index, refl, ap, sym, ◌∙◌, arith, Option, None, Some}
 use Rattle.std.proofs.lemmas.Bool.{cases_lt, eq-eqb, eqb-true}
 use Rattle.spirv_model.specs.declared.module.Inst.{Inst}
 use Rattle.spirv_model.specs.declared.module.Words.{Words}
@@ -10,8 +10,7 @@ use Rattle.body_model.specs.declared.scope.Phis.{Phis}
 use Rattle.body_model.specs.declared.scope.Phis.TheVariants.{Nowhere}
 use Rattle.body_model.specs.Blocks.{leads_to_loop, may_have_phis, rest_of_block, block_end}
 use Rattle.body_model.specs.Due.{IsDue}
-use Rattle.body_model.specs.Scope.{Scope, main}
-use Rattle.body_model.specs.Switches.{is_among}
+use Rattle.body_model.specs.Scope.{Scope}
 use Rattle.body_model.specs.Grammar.{Sequence, ends, goes_on, selects, picks, loops, Arm, straight, through, Arms, no_arm, arm_behind, Derives}
 use Rattle.body_model.proofs.Forward.{sound_at, forward, arm_forward, arms_forward}
 use Rattle.body_model.proofs.Shapes.{IsWhole, after_of}
@@ -19,9 +18,8 @@ use Rattle.valid_model.specs.Definitions.{inst_at}
 use Rattle.check_model.specs.Intervals.{inside}
 use Rattle.check_model.specs.Validity.{IsValidList}
 use Rattle.stage_model.proofs.CodeRuns.{due_of}
-use Rattle.change_model.specs.PlanRules.{merge_labels}
-use Rattle.change_model.proofs.BlockEntries.{Begins, SelectionTo, SwitchTo, Entry, by_one, by_selection, by_switch, merged_by, arm_silent, arms_silent, arm_unmerged, arms_unmerged, begins, unlooped}
-use Rattle.change_model.proofs.ConditionNames.{HasLoop, loop_place}
+use Rattle.change_model.proofs.ArmEntries.{unmerged_by, other_due, true_begins, false_begins, arm_begins}
+use Rattle.change_model.proofs.BlockEntries.{SelectionTo, SwitchTo, Entry, by_one, by_selection, by_switch, arm_unmerged, arms_unmerged, begins, unlooped}
 use Rattle.change_model.proofs.LeftBlocks.{is_inner, AreInner, phi as phi_step, variable as variable_step, plain as plain_step, inner_step}
 use Rattle.change_model.proofs.LeftBlockNames.{by_merge, block_merges, first_there, front_inner, inst_there, second_there, after_most}
 use Rattle.change_model.proofs.LeftCuts.{LabelsOnce}
@@ -34,9 +32,7 @@ use Rattle.change_model.proofs.LeftPlacedArms.{AreArmsPlaced}
 use Rattle.change_model.proofs.LeftPlacedArms as placed_switch
 use Rattle.change_model.proofs.LeftPlacedLoops as placed_loop
 use Rattle.change_model.proofs.LeftPlacedWhole.{labels_once, placed_whole}
-use Rattle.change_model.proofs.LeftScopes.{is_label_at, label_at, names, Placed}
-use Rattle.change_model.proofs.LeftSelections.{SelectsTo, block_selection}
-use Rattle.change_model.proofs.LeftTargets.{Stands, due_stands}
+use Rattle.change_model.proofs.LeftScopes.{is_label_at, label_at, Placed}
 
 clash : {Q : Type 0} (b : Bool) → b ≡ true → b ≡ false → Q
 clash true is isnt = cc
@@ -144,19 +140,6 @@ module _ (insts : List Inst) (once : LabelsOnce insts) (d : Derives insts) where
         entry = entry.1;
       }
 
-  -- a block whose last part doesn't merge the label doesn't name it by a merge instruction
-  pub unmerged_by : (scope : Scope) (wanted : Option ℕ) (from : ℕ) (end : BlockEnd) → IsDue insts wanted from → block_end insts scope from ≡ end → IsWhole end → (label : ℕ) → (SelectsTo end label → ⊥) → (HasLoop end → ⊥)
-      → (place : ℕ) → from ≤ place → place < after_of end → is_among label (merge_labels (inst_at insts place)) ≡ true → ⊥
-  unmerged_by scope wanted from end here is whole label unselected none place low high among =
-      let o = old_block insts scope wanted from end here is whole in
-      elim (merged_by (inst_at insts place) label among) [
-        | inl s ↦ unselected (block_selection insts scope from end o whole place label low high (record { selection = s.0; own = s.1 })).0
-        | inr loop ↦ none (loop_place insts scope None from 0 end o whole place low high loop).0
-      ]
-
-  other_merge : (cut join merge : ℕ) → IsDue insts (Some merge) join → is_label_at insts cut ≡ true → (cut ≡ join → ⊥) → label_at insts cut ≡ merge → ⊥
-  other_merge cut join merge due label other same = let s = due_stands insts merge join due in other (once cut join label s.is_label (same ∙ sym s.own))
-
   mutual
     pub phi_at : {scope : Scope} {wanted next : Option ℕ} {from to : ℕ} (s : Sequence insts scope wanted from to next) → Placed insts d scope next from to (inside s) → Given insts d scope from → (place : ℕ) → from ≤ place → place < to
         → (inst_at insts place).op ≡ op.PHI → PhiIn insts d place
@@ -170,8 +153,11 @@ module _ (insts : List Inst) (once : LabelsOnce insts) (d : Derives insts) where
           let l = p.low in
           let label = due_label insts None after (due_of rest) in
           phi_at rest (placed.placed_next insts once d scope wanted next from to after here is rest p)
-          (inr (omega (arith, f', l), by_one after (begins insts once d scope next from to (inside rest) p after f' g label wanted (way.GoesOn after) here is tt f.within (λ q least less named. omega (arith, least, less))
-          (unmerged_by scope wanted from (way.GoesOn after) here is tt (label_at insts after) (λ none. none) (λ none. none))))) place late high phi
+          (inr (
+            omega (arith, f', l),
+            by_one after (begins insts once d scope next from to (inside rest) p after f' g label wanted (way.GoesOn after) here is tt f.within (λ q least less named. omega (arith, least, less))
+                (unmerged_by insts scope wanted from (way.GoesOn after) here is tt (label_at insts after) (λ none. none) (λ none. none))),
+          )) place late high phi
     ]
     phi_at {scope} {wanted} {next} {from} {to} (selects head second join here is on_true on_false rest) p given place low high phi =
         let f = (sound_at insts scope from (way.Selects head) is).0 in
@@ -180,30 +166,28 @@ module _ (insts : List Inst) (once : LabelsOnce insts) (d : Derives insts) where
         let b = arm_forward insts on_false in
         let g = (forward insts rest).forward in
         let l = p.low in
-        let merge = due_stands insts head.merge join (due_of rest) in
-        let first_unmerged = λ (cut : ℕ) (label : is_label_at insts cut ≡ true) (other : cut ≡ join → ⊥).
-        unmerged_by scope wanted from (way.Selects head) here is tt (label_at insts cut) (λ same. other_merge cut join head.merge (due_of rest) label other same) (λ none. none) in
+        let selection : SelectionTo insts d join =
+        record { scope = scope; wanted = wanted; next = next; from = from; to = to; head = head; second = second; here = here; is = is; on_true = on_true; on_false = on_false; rest = rest; placed = p } in
         elim (cases_lt place head.after) [
           | inl early ↦ in_first scope wanted from (way.Selects head) here is tt given place low early phi
           | inr late ↦ elim (cases_lt place second) [
             | inl first ↦ arm_phi on_true (placed.placed_true insts once d scope wanted next from to head second join here is on_true on_false rest p)
-                (λ label less. (omega (arith, f', l), by_one head.after (begins insts once d scope next from to _ p head.after f' (omega (arith, a, b, g)) label wanted (way.Selects head) here is tt f.within (λ q least behind named. omega (arith, least, behind))
-                (first_unmerged head.after label (λ same. omega (arith, same, less, b)))))) place late first phi
+                (λ label less. (omega (arith, f', l), by_one head.after (true_begins insts once d join selection label less))) place late first phi
             | inr past ↦ elim (cases_lt place join) [
               | inl other ↦ arm_phi on_false (placed.placed_false insts once d scope wanted next from to head second join here is on_true on_false rest p)
-                  (λ label less. (omega (arith, f', l, a), by_one head.after (begins insts once d scope next from to _ p second (omega (arith, f', a)) (omega (arith, b, g)) label wanted (way.Selects head) here is tt f.within
-                  (λ q least behind named. arm_silent insts once d scope next from to _ p second (omega (arith, f', a)) (omega (arith, b, g)) label join on_true merge (λ same. omega (arith, same, less)) (inr (omega arith)) q least behind named)
-                  (first_unmerged second label (λ same. omega (arith, same, less)))))) place past other phi
+                  (λ label less. (omega (arith, f', l, a), by_one head.after (false_begins insts once d join selection label less))) place past other phi
               | inr beyond ↦
                   let label = due_label insts (Some head.merge) join (due_of rest) in
                   let here_to : from < join = omega (arith, f', a, b) in
                   phi_at rest (placed.placed_merge insts once d scope wanted next from to head second join here is on_true on_false rest p)
-                  (inr (omega (arith, f', a, b, l), by_selection
-                  (record { scope = scope; wanted = wanted; next = next; from = from; to = to; head = head; second = second; here = here; is = is; on_true = on_true; on_false = on_false; rest = rest; placed = p })
-                  (unlooped insts once d scope next from to _ p join here_to g label wanted (way.Selects head) here is tt f.within (λ none. none) (λ q least less among. elim (cases_lt q second) [
-                    | inl in_true ↦ arm_unmerged insts once d scope next from to _ p join here_to g label on_true b q least in_true among
-                    | inr in_false ↦ arm_unmerged insts once d scope next from to _ p join here_to g label on_false (omega arith) q in_false less among
-                  ])))) place beyond high phi
+                  (inr (
+                    omega (arith, f', a, b, l),
+                    by_selection selection
+                        (unlooped insts once d scope next from to _ p join here_to g label wanted (way.Selects head) here is tt f.within (λ none. none) (λ q least less among. elim (cases_lt q second) [
+                          | inl in_true ↦ arm_unmerged insts once d scope next from to _ p join here_to g label on_true b q least in_true among
+                          | inr in_false ↦ arm_unmerged insts once d scope next from to _ p join here_to g label on_false (omega arith) q in_false less among
+                        ])),
+                  )) place beyond high phi
             ]
           ]
         ]
@@ -213,23 +197,23 @@ module _ (insts : List Inst) (once : LabelsOnce insts) (d : Derives insts) where
         let a = arms_forward insts arms in
         let g = (forward insts rest).forward in
         let l = p.low in
-        let merge = due_stands insts head.merge join (due_of rest) in
+        let switch : SwitchTo insts d join = record { scope = scope; wanted = wanted; next = next; from = from; to = to; head = head; here = here; is = is; arms = arms; rest = rest; placed = p } in
         elim (cases_lt place head.after) [
           | inl early ↦ in_first scope wanted from (way.Picks head) here is tt given place low early phi
           | inr late ↦ elim (cases_lt place join) [
             | inl within ↦ arms_phi {join = join} head.after arms (placed_switch.placed_arms insts once d scope wanted next from to head join here is arms rest p)
-                (λ part between earlier label least less. (omega (arith, f', l, least), by_one head.after (begins insts once d scope next from to _ p between (omega (arith, f', least)) (omega (arith, less, g)) label wanted (way.Picks head) here is tt f.within
-                (λ q behind before named. arms_silent insts once d scope next from to _ p between (omega (arith, f', least)) (omega (arith, less, g)) label join earlier merge (λ same. omega (arith, same, less)) (omega arith) q behind before named)
-                (unmerged_by scope wanted from (way.Picks head) here is tt (label_at insts between) (λ same. other_merge between join head.merge (due_of rest) label (λ same. omega (arith, same, less)) same) (λ none. none)))))
+                (λ part between earlier label least less. (omega (arith, f', l, least), by_one head.after (arm_begins insts once d join switch part between earlier label least less)))
                 (omega arith) place late within phi
             | inr beyond ↦
                 let label = due_label insts (Some head.merge) join (due_of rest) in
                 let here_to : from < join = omega (arith, f', a) in
                 phi_at rest (placed_switch.placed_join insts once d scope wanted next from to head join here is arms rest p)
-                (inr (omega (arith, f', a, l), by_switch
-                (record { scope = scope; wanted = wanted; next = next; from = from; to = to; head = head; here = here; is = is; arms = arms; rest = rest; placed = p })
-                (unlooped insts once d scope next from to _ p join here_to g label wanted (way.Picks head) here is tt f.within (λ none. none)
-                (λ q least less among. arms_unmerged insts once d scope next from to _ p join here_to g label arms (omega arith) q least less among)))) place beyond high phi
+                (inr (
+                  omega (arith, f', a, l),
+                  by_switch switch
+                      (unlooped insts once d scope next from to _ p join here_to g label wanted (way.Picks head) here is tt f.within (λ none. none)
+                      (λ q least less among. arms_unmerged insts once d scope next from to _ p join here_to g label arms (omega arith) q least less among)),
+                )) place beyond high phi
           ]
         ]
     phi_at {scope} {wanted} {next} {from} {to} (loops head inner first second third here is tested within step rest) p given place low high phi =
@@ -246,11 +230,14 @@ module _ (insts : List Inst) (once : LabelsOnce insts) (d : Derives insts) where
             | inl one ↦
                 let label = due_label insts (Some head.test) head.after (due_of tested) in
                 phi_at tested (placed_loop.placed_test insts once d scope wanted next from to head inner first second third here is tested within step rest p)
-                (inr (omega (arith, f', l), by_one head.after (begins insts once d scope next from to _ p head.after f' (omega (arith, t, q, r, g)) label wanted (way.Loops head) here is tt f.within (λ q least less named. omega (arith, least, less))
-                (λ at least less among. elim (block_merges insts scope from (way.Loops head) (old_block insts scope wanted from (way.Loops head) here is tt) tt at (label_at insts head.after) least less (by_merge among)) [
-                  | inl same ↦ other_merge head.after third head.merge (due_of rest) label (λ same. omega (arith, same, t, q, r)) same
-                  | inr same ↦ other_merge head.after second head.next (due_of step) label (λ same. omega (arith, same, t, q)) same
-                ])))) place late one phi
+                (inr (
+                  omega (arith, f', l),
+                  by_one head.after (begins insts once d scope next from to _ p head.after f' (omega (arith, t, q, r, g)) label wanted (way.Loops head) here is tt f.within (λ q least less named. omega (arith, least, less))
+                      (λ at least less among. elim (block_merges insts scope from (way.Loops head) (old_block insts scope wanted from (way.Loops head) here is tt) tt at (label_at insts head.after) least less (by_merge among)) [
+                        | inl same ↦ other_due insts once d head.after third head.merge (due_of rest) label (λ same. omega (arith, same, t, q, r)) same
+                        | inr same ↦ other_due insts once d head.after second head.next (due_of step) label (λ same. omega (arith, same, t, q)) same
+                      ])),
+                )) place late one phi
             | inr past ↦ elim (cases_lt place second) [
               | inl two ↦ phi_at within (placed_loop.placed_body insts once d scope wanted next from to head inner first second third here is tested within step rest p) (inl refl) place past two phi
               | inr further ↦ elim (cases_lt place third) [
