@@ -223,7 +223,9 @@ pub mod ChangedPhis
 pub mod ChangedVisible
 pub mod FoundReduced
 pub mod FoundSooner
+pub mod FunctionPlaces
 pub mod ConstantChoices
+pub mod FoundStraight
 pub mod PlanChanges
 pub mod SpecializedLeft
 pub mod ConstantsSpecialized
