@@ -30,7 +30,7 @@ both true b is also = also
 both false b is also = cc
 
 -- behind the type and the id stand the pairs that are left
-left_behind : (name : ℕ → ℕ) (blocks words : List ℕ) → drop 2 (take 2 words ++ pairs_left name blocks (drop 2 words)) ≡ pairs_left name blocks (drop 2 words)
+pub left_behind : (name : ℕ → ℕ) (blocks words : List ℕ) → drop 2 (take 2 words ++ pairs_left name blocks (drop 2 words)) ≡ pairs_left name blocks (drop 2 words)
 left_behind name blocks [] = refl
 left_behind name blocks (a ∷ []) = refl
 left_behind name blocks (a ∷ b ∷ words) = refl

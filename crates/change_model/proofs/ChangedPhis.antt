@@ -138,7 +138,7 @@ all_by test [] each = refl
 all_by test (label ∷ list) each =
     both (test label) (list_all test list) (each label (or_left (label == label) (is_among label list) (eq-eqb label label refl))) (all_by test list (λ other among. each other (or_right (label == other) (is_among other list) among)))
 
-one_of_all : (test : ℕ → Bool) (list : List ℕ) (label : ℕ) → list_all test list ≡ true → is_among label list ≡ true → test label ≡ true
+pub one_of_all : (test : ℕ → Bool) (list : List ℕ) (label : ℕ) → list_all test list ≡ true → is_among label list ≡ true → test label ≡ true
 one_of_all test [] label all among = cc
 one_of_all test (own ∷ list) label all among = by_test (own == label) refl among (one_of_all test list label (second_of_both (test own) (list_all test list) all))
   where
@@ -146,13 +146,13 @@ one_of_all test (own ∷ list) label all among = by_test (own == label) refl amo
     by_test true same among more = ap test (sym (eqb-true own label same)) ∙ first_of_both (test own) (list_all test list) all
     by_test false isnt among more = more among
 
-three_of : (a b c : Bool) → (a && b && c) ≡ true → (a ≡ true) × (b ≡ true) × (c ≡ true)
+pub three_of : (a b c : Bool) → (a && b && c) ≡ true → (a ≡ true) × (b ≡ true) × (c ≡ true)
 three_of true true true is = (refl, refl, refl)
 three_of true true false is = cc
 three_of true false c is = cc
 three_of false b c is = cc
 
-not_true : (b : Bool) → not b ≡ true → b ≡ false
+pub not_true : (b : Bool) → not b ≡ true → b ≡ false
 not_true true is = cc
 not_true false is = refl
 

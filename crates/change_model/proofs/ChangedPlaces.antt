@@ -38,7 +38,7 @@ place_left plan insts place =
 pub function_within : (insts : List Inst) → function_at insts ≤ length insts
 function_within insts = prefix_len-le-length (λ inst. not (is_op_function inst)) insts
 
-level_long : (insts : List Inst) → length (take (function_at insts) insts) ≡ function_at insts
+pub level_long : (insts : List Inst) → length (take (function_at insts) insts) ≡ function_at insts
 level_long insts = length-take-le (function_at insts) insts (function_within insts)
 
 no_level : (a b : ℕ) → b ≤ a → nat_lt a b ≡ false

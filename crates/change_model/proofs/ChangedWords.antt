@@ -112,7 +112,7 @@ switch_long [] fits = cc
 switch_long (a ∷ []) fits = cc
 switch_long (a ∷ b ∷ words) fits = omega arith
 
-choice_long : (inst : Inst) → IsChoice inst.op → is_some (kinds inst) ≡ true → 2 ≤ length inst.words
+pub choice_long : (inst : Inst) → IsChoice inst.op → is_some (kinds inst) ≡ true → 2 ≤ length inst.words
 unfolding kinds
 choice_long inst (conditional is) fits = conditional_long inst.words (ap (λ (o : ℕ). is_some (kinds_in (entry_of o) inst.words)) (sym is) ∙ fits)
 choice_long inst (switch is) fits = switch_long inst.words (ap (λ (o : ℕ). is_some (kinds_in (entry_of o) inst.words)) (sym is) ∙ fits)

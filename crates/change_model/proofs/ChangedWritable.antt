@@ -59,7 +59,7 @@ no_more_too : (a b most : ℕ) → a ≡ 0 → b ≤ most + 1 → a + b ≤ most
 no_more_too a b most none short = omega (arith, short, none)
 
 -- what is left of it takes no more words
-one_smaller : (g : Planned) (place : ℕ) → function_at g.words.insts ≤ place → place < length g.words.insts
+pub one_smaller : (g : Planned) (place : ℕ) → function_at g.words.insts ≤ place → place < length g.words.insts
     → size (constant_at g.plan g.words.insts place) + size (written_at g.plan g.words.insts place) ≤ length (inst_at g.words.insts place).words + 1
 one_smaller g place low within = by_kind (is_constant_fate (g.plan.fate place)) refl
   where

@@ -110,10 +110,10 @@ module _ (insts : List Inst) (scope : Scope) (wanted : Option ℕ) (from : ℕ) 
       }
 
   module _ (head : SelectionHead) (is : block_end insts scope from ≡ way.Selects head) where
-    old_select : OldBlock insts scope from (way.Selects head)
+    pub old_select : OldBlock insts scope from (way.Selects head)
     old_select = old_block insts scope wanted from (way.Selects head) here is tt
 
-    select_way : SelectsWay scope old_select.inst old_select.behind old_select.place head
+    pub select_way : SelectsWay scope old_select.inst old_select.behind old_select.place head
     select_way =
         let o = old_select in
         head_way scope (slice_index o.label.words 0) o.inst o.behind o.place (way.Selects head) (way_of scope (slice_index o.label.words 0) o.inst o.behind o.place (way.Selects head) o.ends tt)
@@ -154,10 +154,10 @@ module _ (insts : List Inst) (scope : Scope) (wanted : Option ℕ) (from : ℕ) 
         ∙ by_second (word_at 1 w.last == word_at 2 w.last) (is_among (word_at 2 w.last) (word_at 2 w.last ∷ [])) (among_head (word_at 2 w.last) []))
 
   module _ (head : SwitchHead) (is : block_end insts scope from ≡ way.Picks head) where
-    old_pick : OldBlock insts scope from (way.Picks head)
+    pub old_pick : OldBlock insts scope from (way.Picks head)
     old_pick = old_block insts scope wanted from (way.Picks head) here is tt
 
-    pick_way : PicksWay scope old_pick.inst old_pick.behind old_pick.place head
+    pub pick_way : PicksWay scope old_pick.inst old_pick.behind old_pick.place head
     pick_way =
         let o = old_pick in
         head_way scope (slice_index o.label.words 0) o.inst o.behind o.place (way.Picks head) (way_of scope (slice_index o.label.words 0) o.inst o.behind o.place (way.Picks head) o.ends tt)

@@ -173,7 +173,7 @@ dead_stays : fate.Dead ≡ fate.Stays → ⊥
 dead_stays is = cc
 
 module _ (f : Found) (place : ℕ) (low : f.valid.derivation.before < place) (high : place < f.valid.derivation.after) where
-  phi_typed : (inst_at f.words.insts place).op ≡ op.PHI → f.plan.fate place ≡ fate.Stays → is_shape (meaning f.words.insts (word_at 0 (inst_at f.words.insts place))) ≡ true
+  pub phi_typed : (inst_at f.words.insts place).op ≡ op.PHI → f.plan.fate place ≡ fate.Stays → is_shape (meaning f.words.insts (word_at 0 (inst_at f.words.insts place))) ≡ true
   phi_typed is same = by_block (is_dead (f.plan.fate (place - 1))) refl
     where
       type : Meaning

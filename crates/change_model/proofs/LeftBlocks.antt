@@ -30,12 +30,12 @@ pub data Thinned : List Inst → List Inst → Type 0 where
 
 -- ---- one instruction of the old block
 
-data InnerStep (scope : Scope) (label : ℕ) (phis variables : Bool) (inst : Inst) (rest : List Inst) (place : ℕ) : Type 0 where
+pub data InnerStep (scope : Scope) (label : ℕ) (phis variables : Bool) (inst : Inst) (rest : List Inst) (place : ℕ) : Type 0 where
   phi : inst.op == PHI ≡ true → phis ≡ true → IsWhole (rest_of_block scope label phis false rest (place + 1)) → InnerStep scope label phis variables inst rest place
   variable : inst.op == PHI ≡ false → inst.op == VARIABLE ≡ true → variables ≡ true → IsWhole (rest_of_block scope label false variables rest (place + 1)) → InnerStep scope label phis variables inst rest place
   plain : inst.op == PHI ≡ false → inst.op == VARIABLE ≡ false → is_plain inst.op ≡ true → IsWhole (rest_of_block scope label false false rest (place + 1)) → InnerStep scope label phis variables inst rest place
 
-inner_step : (scope : Scope) (label : ℕ) (phis variables : Bool) (inst : Inst) (rest : List Inst) (place : ℕ) → is_inner inst.op ≡ true → IsWhole (rest_of_block scope label phis variables (inst ∷ rest) place)
+pub inner_step : (scope : Scope) (label : ℕ) (phis variables : Bool) (inst : Inst) (rest : List Inst) (place : ℕ) → is_inner inst.op ≡ true → IsWhole (rest_of_block scope label phis variables (inst ∷ rest) place)
     → InnerStep scope label phis variables inst rest place
 inner_step scope label phis variables inst rest place inner whole =
     by_tests scope label phis variables inst rest place (inst.op == PHI) (inst.op == VARIABLE) (is_plain inst.op) refl refl refl inner whole

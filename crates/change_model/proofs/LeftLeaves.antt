@@ -25,7 +25,7 @@ use Rattle.change_model.proofs.LeftMerges.{merges_in}
 use Rattle.change_model.proofs.LeftScopes.{names}
 
 -- what names a label is a terminator
-named_terminator : (inst : Inst) (label : ℕ) → is_among label (targets inst) ≡ true → is_terminator inst.op ≡ true
+pub named_terminator : (inst : Inst) (label : ℕ) → is_among label (targets inst) ≡ true → is_terminator inst.op ≡ true
 unfolding targets_by
 named_terminator inst label among = by_tests (inst.op == op.BRANCH) (inst.op == op.BRANCH_CONDITIONAL) (inst.op == op.SWITCH) refl refl refl among
   where

@@ -23,7 +23,7 @@ use Rattle.change_model.proofs.LeftFronts.{old_block}
 use Rattle.change_model.proofs.LeftBlockNames.{Merges, StandsIn, block_merges, stands_due, stands_wider}
 
 -- where the first block of an arm stands
-arm_first : (insts : List Inst) {scope : Scope} {merge target from to : ℕ} → Arm insts scope merge target from to → (target ≡ merge) ⊎ (IsDue insts (Some target) from × (from < to))
+pub arm_first : (insts : List Inst) {scope : Scope} {merge target from to : ℕ} → Arm insts scope merge target from to → (target ≡ merge) ⊎ (IsDue insts (Some target) from × (from < to))
 arm_first insts (straight is none) = inl is
 arm_first insts (through isnt sequence) = inr (due_of sequence, (let f = forward insts sequence in let g = f.forward in omega (arith, g)))
 

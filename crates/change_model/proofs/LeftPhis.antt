@@ -105,7 +105,7 @@ block_by (suc n) insts from place is within label plain =
     ∙ same_label_behind insts (from + 1 + n) (slice_get-get_or insts (from + 1 + n) no_instruction (omega (arith, is, within))) (plain (from + 1 + n) (omega arith) (omega (arith, is)))
     ∙ block_by n insts from (from + 1 + n) refl (omega (arith, is, within)) label (λ at behind before. plain at behind (omega (arith, is, before)))
 
-block_of : (insts : List Inst) (from place : ℕ) → from < place → place ≤ length insts → is_label_at insts from ≡ true → ((at : ℕ) → from < at → at < place → is_label_at insts at ≡ false) → block_at insts place ≡ label_at insts from
+pub block_of : (insts : List Inst) (from place : ℕ) → from < place → place ≤ length insts → is_label_at insts from ≡ true → ((at : ℕ) → from < at → at < place → is_label_at insts at ≡ false) → block_at insts place ≡ label_at insts from
 block_of insts from place less within label plain = block_by (place - (from + 1)) insts from place (omega (arith, less)) within label plain
 
 -- the last label up to a place

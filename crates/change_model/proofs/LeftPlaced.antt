@@ -47,7 +47,7 @@ some_label a b same = cc
 pub stands_at_due : (insts : List Inst) (label known place : ℕ) → label ≡ known → IsDue insts (Some known) place → Stands insts label place
 stands_at_due insts label known place is due = due_stands insts label place (subst (λ (l : ℕ). IsDue insts (Some l) place) (sym is) due)
 
-some_none : {scope : Scope} {label : ℕ} → IsExit scope label → exit_to scope label ≡ None → ⊥
+pub some_none : {scope : Scope} {label : ℕ} → IsExit scope label → exit_to scope label ≡ None → ⊥
 some_none e none = never e.is none
   where
     never : {found : Option End} {end : End} → found ≡ Some end → found ≡ None → ⊥

@@ -45,29 +45,6 @@ pub record Construct (insts : List Inst) (d : Derives insts) (header past : ℕ)
   pub high : past ≤ d.after
   pub entered : (place at : ℕ) → place < header → header < at → at < past → is_label_at insts at ≡ true → names insts place (label_at insts at) ≡ false
 
--- the label is that of the header of a loop around the places
-pub record BackTo (insts : List Inst) (d : Derives insts) (from to label : ℕ) : Type 0 where
-  pub header : ℕ
-  pub past : ℕ
-  pub stands : Stands insts label header
-  pub before : header < from
-  pub within : to ≤ past
-  pub construct : Construct insts d header past
-
--- the label stands behind the places, or is that of the header of a loop around them
-pub data Beyond (insts : List Inst) (d : Derives insts) (from to label : ℕ) : Type 0 where
-  ahead : StandsIn insts to d.after label → Beyond insts d from to label
-  back : BackTo insts d from to label → Beyond insts d from to label
-
-nearer : (insts : List Inst) (d : Derives insts) (from to low high label : ℕ) → from ≤ low → high ≤ to → Beyond insts d from to label → Beyond insts d low high label
-nearer insts d from to low high label down up (ahead s) = ahead (stands_wider insts to d.after high d.after label up (omega arith) s)
-nearer insts d from to low high label down up (back b) =
-    back (record { header = b.header; past = b.past; stands = b.stands; before = let l = b.before in omega (arith, l, down); within = let h = b.within in omega (arith, h, up); construct = b.construct })
-
--- where a sequence may be left to
-abbrev Exits : (insts : List Inst) → Derives insts → Scope → Option ℕ → ℕ → ℕ → Type 0
-Exits insts d scope next from to = (label : ℕ) → MayLeaveTo scope next label → Beyond insts d from to label
-
 -- the loop whose OpLoopMerge stands at a place
 pub record LoopAt (insts : List Inst) (d : Derives insts) (place : ℕ) : Type 0 where
   pub scope : Scope
@@ -88,6 +65,34 @@ pub record LoopAt (insts : List Inst) (d : Derives insts) (place : ℕ) : Type 0
   pub rest : Sequence insts (behind_loop scope) (Some head.merge) third to next
   pub placed : Placed insts d scope next from to (around head.after first (inside tested) ++ (around first second (inside within) ++ (around second third (inside step) ++ inside rest)))
   pub at : place ≡ (old_block insts scope wanted from (way.Loops head) here is tt).place
+
+-- the label is that of the header of a loop whose continue sequence has the places
+pub record BackTo (insts : List Inst) (d : Derives insts) (from to label : ℕ) : Type 0 where
+  pub header : ℕ
+  pub past : ℕ
+  pub stands : Stands insts label header
+  pub before : header < from
+  pub within : to ≤ past
+  pub construct : Construct insts d header past
+  pub place : ℕ
+  pub loop : LoopAt insts d place
+  pub own : loop.from ≡ header
+  pub step : loop.second ≤ from
+  pub end : loop.third ≡ past
+
+-- the label stands behind the places, or is that of the header of a loop around them
+pub data Beyond (insts : List Inst) (d : Derives insts) (from to label : ℕ) : Type 0 where
+  ahead : StandsIn insts to d.after label → Beyond insts d from to label
+  back : BackTo insts d from to label → Beyond insts d from to label
+
+nearer : (insts : List Inst) (d : Derives insts) (from to low high label : ℕ) → from ≤ low → high ≤ to → Beyond insts d from to label → Beyond insts d low high label
+nearer insts d from to low high label down up (ahead s) = ahead (stands_wider insts to d.after high d.after label up (omega arith) s)
+nearer insts d from to low high label down up (back b) =
+    back (record { header = b.header; past = b.past; stands = b.stands; before = let l = b.before in omega (arith, l, down); within = let h = b.within in omega (arith, h, up); construct = b.construct; place = b.place; loop = b.loop; own = b.own; step = let l = b.step in omega (arith, l, down); end = b.end })
+
+-- where a sequence may be left to
+abbrev Exits : (insts : List Inst) → Derives insts → Scope → Option ℕ → ℕ → ℕ → Type 0
+Exits insts d scope next from to = (label : ℕ) → MayLeaveTo scope next label → Beyond insts d from to label
 
 -- what is known of the instruction at a place: what it names, and the loop whose merge instruction it is
 pub record Known (insts : List Inst) (d : Derives insts) (place : ℕ) : Type 0 where
@@ -225,29 +230,30 @@ module _ (insts : List Inst) (once : LabelsOnce insts) (d : Derives insts) where
         let r = (forward insts step).forward in
         let g = (forward insts rest).forward in
         let h = p.high in
+        let here_at : (n : ℕ) → n ≡ (old_block insts scope wanted from (way.Loops head) here is tt).place → LoopAt insts d n = λ n at. record {
+          scope = scope;
+          wanted = wanted;
+          next = next;
+          from = from;
+          to = to;
+          head = head;
+          inner = inner;
+          first = first;
+          second = second;
+          third = third;
+          here = here;
+          is = is;
+          tested = tested;
+          within = within;
+          step = step;
+          rest = rest;
+          placed = p;
+          at = at;
+        } in
         let merge_exit : (low high label : ℕ) → high ≤ third → label ≡ head.merge → Beyond insts d low high label = λ low high label most same. exit_due low high third label head.merge most (omega (arith, g, h)) same (due_of rest) in
         elim (cases_lt place head.after) [
           | inl early ↦ record {
-            loop = λ merge. record {
-              scope = scope;
-              wanted = wanted;
-              next = next;
-              from = from;
-              to = to;
-              head = head;
-              inner = inner;
-              first = first;
-              second = second;
-              third = third;
-              here = here;
-              is = is;
-              tested = tested;
-              within = within;
-              step = step;
-              rest = rest;
-              placed = p;
-              at = (loop_place insts scope None from 0 (way.Loops head) (old_block insts scope wanted from (way.Loops head) here is tt) tt place low early merge).1;
-            };
+            loop = λ merge. here_at place (loop_place insts scope None from 0 (way.Loops head) (old_block insts scope wanted from (way.Loops head) here is tt) tt place low early merge).1;
             named = λ label named. block_names {Q = λ label. Beyond insts d place (place + 1) label} insts scope wanted from (way.Loops head) here is tt f.within
                 (λ b label among. due_ahead place head.after label head.test early (omega (arith, t, q, r, g, h)) (one_name label head.test _ b.ends.0 among) (due_of tested))
                 (λ label merged. elim merged [
@@ -276,6 +282,11 @@ module _ (insts : List Inst) (once : LabelsOnce insts) (d : Derives insts) where
                         high = omega (arith, g, h);
                         entered = λ place at less behind before label_is. p.entered place at (inl less) behind (omega (arith, before, g)) label_is;
                       };
+                      place = (old_block insts scope wanted from (way.Loops head) here is tt).place;
+                      loop = here_at (old_block insts scope wanted from (way.Loops head) here is tt).place refl;
+                      own = refl;
+                      step = omega arith;
+                      end = refl;
                     })) place further three
                 | inr beyond ↦ known_at rest (placed_loop.placed_behind insts once d scope wanted next from to head inner first second third here is tested within step rest p)
                     (later_exits scope next from to third (omega (arith, f', t, q, r)) exits) place beyond high

@@ -76,6 +76,9 @@ module _ (insts : List Inst) (once : LabelsOnce insts) (d : Derives insts) (plac
   pub past_rest : l.third < l.to
   past_rest = (forward insts l.rest).forward
 
+  pub merge_op : (inst_at insts place).op ≡ op.LOOP_MERGE
+  merge_op = ap (λ (n : ℕ). (inst_at insts n).op) l.at ∙ ap (λ (i : Inst). i.op) (inst_there insts l.scope l.from (way.Loops l.head) block) ∙ block_way.is
+
   pub merge_is : word_at 0 (inst_at insts place) ≡ l.head.merge
   merge_is = ap (λ (n : ℕ). word_at 0 (inst_at insts n)) l.at ∙ ap (λ (i : Inst). word_at 0 i) (inst_there insts l.scope l.from (way.Loops l.head) block) ∙ block_way.merge
 

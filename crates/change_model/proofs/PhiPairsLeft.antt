@@ -72,7 +72,7 @@ pub record PairLeft (g : Planned) (pair : Incoming) : Type 0 where
   pub seen : is_defined_for (intervals_of g.valid.derivation) end (definition g.words.insts pair.value) ≡ true
 
 -- what still leads somewhere isn't dead
-leads_alive : (plan : Plan) (insts : List Inst) (label place : ℕ) → leads_from plan insts label place ≡ true → is_dead (plan.fate place) ≡ false
+pub leads_alive : (plan : Plan) (insts : List Inst) (label place : ℕ) → leads_from plan insts label place ≡ true → is_dead (plan.fate place) ≡ false
 leads_alive plan insts label place leads = by_fate (plan.fate place) leads
   where
     by_fate : (what : Fate) → is_among label (targets_left what (inst_at insts place)) ≡ true → is_dead what ≡ false

@@ -76,7 +76,7 @@ store_fit typing inst is fit = by_tests (inst.op == op.LOAD) (inst.op == op.STOR
     by_tests false true isnt is x y z fit = fit
     by_tests false false isnt is x y z fit = cc
 
-storage_here : (words : Words) (v : IsValidList words) (place : ℕ) → place < v.derivation.after → (inst_at words.insts place).op ≡ op.STORE
+pub storage_here : (words : Words) (v : IsValidList words) (place : ℕ) → place < v.derivation.after → (inst_at words.insts place).op ≡ op.STORE
     → points_to_read_only (type_of (typing_of words.insts) (word_at 0 (inst_at words.insts place))) ≡ false
 unfolding has_wrong_storage is_wrong_storage
 storage_here words v place high is =

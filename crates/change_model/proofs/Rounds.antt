@@ -1,11 +1,10 @@
 -- Changes one after another: constants for the specialization constants, and then plans.
-use Rattle.std.proofs.Common.{◌≡◌, true, List, ℕ}
+use Rattle.std.proofs.Common.{List, ℕ}
 use Rattle.spirv_model.specs.declared.module.Words.{Words}
 use Rattle.state_model.specs.declared.parts.SpecValues.{SpecValues}
 use Rattle.check_model.specs.Validity.{IsValidList}
-use Rattle.unit_model.specs.ConstantScalars.{is_specialized}
 use Rattle.change_model.specs.Constants.{with_constants}
-use Rattle.change_model.specs.Keeping.{IsChange}
+use Rattle.change_model.specs.Specialised.{CameOf}
 use Rattle.change_model.proofs.Composing.{changes_again}
 use Rattle.change_model.proofs.ConstantsSpecialized.{constants_specialized}
 use Rattle.change_model.proofs.ConstantsValid.{constants_change}
@@ -13,11 +12,6 @@ use Rattle.change_model.proofs.PlanChanges.{plan_changes}
 use Rattle.change_model.proofs.PlanRunsKeep.{AllRead, changed_words}
 use Rattle.change_model.proofs.Planned.{Planned}
 use Rattle.change_model.proofs.SpecializedLeft.{specialized_left}
-
--- a module without specialization constants that came of another one by changes, whatever entries it is given
-pub record CameOf (zeros : List ℕ) (entries : SpecValues) (new old : Words) : Type 0 where
-  pub changes : (any : SpecValues) → IsChange zeros new any old entries
-  pub specialized : is_specialized new.insts ≡ true
 
 pub first_round : (zeros : List ℕ) (entries : SpecValues) (words : Words) → IsValidList words → CameOf zeros entries (with_constants entries words) words
 first_round zeros entries words v = record { changes = constants_change zeros words v entries; specialized = constants_specialized words v entries }

@@ -6,6 +6,7 @@ use Rattle.std.specs.Option.{option_map, option_and_then}
 use Rattle.std.proofs.lemmas.Bool.{eqb-true}
 use Rattle.basics.proofs.Bools.{first_of_both, second_of_both}
 use Rattle.spirv_model.specs.declared.module.Inst.{Inst}
+use Rattle.spirv_model.specs.declared.module.Words.{Words}
 use Rattle.spirv_model.specs.declared.class.Class.{Class}
 use Rattle.spirv_model.specs.declared.class.Class.TheVariants as class
 use Rattle.spirv_model.specs.declared.class.ScalarClass.{ScalarClass}
@@ -23,7 +24,7 @@ use Rattle.valid_model.specs.Knowledge.{Knowledge, meaning_in, is_data, is_bool}
 use Rattle.valid_model.specs.Meanings.{known_by, known_before, meaning}
 use Rattle.valid_model.specs.ModuleFacts.{is_word}
 use Rattle.valid_model.specs.Shapes.{pointee_id}
-use Rattle.valid_model.specs.Types.{is_type_class, is_result_type}
+use Rattle.valid_model.specs.Types.{is_type, is_result_type}
 use Rattle.check_model.specs.declared.components.Components.{Components}
 use Rattle.check_model.specs.declared.components.Component.{Component}
 use Rattle.check_model.specs.declared.components.Component.TheVariants as component
@@ -34,6 +35,7 @@ use Rattle.check_model.specs.MemoryOperands.{load_fits, store_fits, chain_along,
 use Rattle.check_model.specs.OperandTypes.{operands_fit_class, operands_fit}
 use Rattle.check_model.specs.ScalarOperands.{match_in, unary_fits, binary_fits, condition_fits, is_select, scalar_operands_fit}
 use Rattle.check_model.specs.Typing.{Typing, typing_of, type_id, has_type, meaning_of, type_of, components_in}
+use Rattle.check_model.specs.Validity.{IsValidList}
 use Rattle.check_model.specs.Visibility.{uses_operands}
 use Rattle.typed_model.proofs.BlockParts.{another}
 use Rattle.typed_model.proofs.ModuleTypes.{IsSoundShape, all_fit}
@@ -42,7 +44,6 @@ use Rattle.typed_model.proofs.ValidModules.{valid_sound}
 use Rattle.typed_model.proofs.ValidTypes.{keeps_rules, pointer_by, unbroken, stays_known}
 use Rattle.change_model.specs.Folding.{function_at}
 use Rattle.change_model.specs.PlanRules.{is_shape}
-use Rattle.change_model.proofs.BehindLevel.{fails_function, type_fails}
 use Rattle.change_model.proofs.ChangedNames.{name_of_type}
 use Rattle.change_model.proofs.Planned.{Planned}
 
@@ -118,15 +119,15 @@ scalar_shape typing own type (condition ∷ a ∷ b ∷ c ∷ more) is = cc
 -- ---- types that others are made of
 
 -- pointers point to data, and parts are data
-record AreSound (typing : Typing) : Type 0 where
-  pointee : (id class to : ℕ) → typing.meaning id ≡ OfShape (Pointer class to) → is_data (typing.meaning to) ≡ true
-  part_data : (id index own : ℕ) → part_at (typing.meaning id) index ≡ Some (part.Type own) → is_data (typing.meaning own) ≡ true
+pub record AreSound (typing : Typing) : Type 0 where
+  pub pointee : (id class to : ℕ) → typing.meaning id ≡ OfShape (Pointer class to) → is_data (typing.meaning to) ≡ true
+  pub part_data : (id index own : ℕ) → part_at (typing.meaning id) index ≡ Some (part.Type own) → is_data (typing.meaning own) ≡ true
 
 abbrev pub IsDataPart : Typing → Option Part → Type 0
 IsDataPart typing (Some (part.Type own)) = is_data (typing.meaning own) ≡ true
 IsDataPart typing reached = Unit {0}
 
-data_next : (typing : Typing) → AreSound typing → (reached : Option Part) (index : ℕ) → IsDataPart typing (option_and_then (λ (whole : Part). part_of typing whole index) reached)
+pub data_next : (typing : Typing) → AreSound typing → (reached : Option Part) (index : ℕ) → IsDataPart typing (option_and_then (λ (whole : Part). part_of typing whole index) reached)
 data_next typing s None index = tt
 data_next typing s (Some (part.Component component)) index = tt
 data_next typing s (Some (part.Type type)) index = by_part (part_at (typing.meaning type) index) refl
@@ -136,7 +137,7 @@ data_next typing s (Some (part.Type type)) index = by_part (part_at (typing.mean
     by_part (Some (part.Component component)) is = tt
     by_part (Some (part.Type own)) is = s.part_data type index own is
 
-data_along : (typing : Typing) → AreSound typing → (reached : Option Part) (indices : List ℕ) → IsDataPart typing reached → IsDataPart typing (part_along typing reached indices)
+pub data_along : (typing : Typing) → AreSound typing → (reached : Option Part) (indices : List ℕ) → IsDataPart typing reached → IsDataPart typing (part_along typing reached indices)
 data_along typing s reached [] is = is
 data_along typing s reached (index ∷ indices) is = data_along typing s (option_and_then (λ (whole : Part). part_of typing whole index) reached) indices (data_next typing s reached index)
 
@@ -299,7 +300,7 @@ part_by known (OfShape (Array element count)) index own sound is = by_test (nat_
 part_by known (OfShape (Struct members)) index own sound is = member_data (λ (id : ℕ). meaning_in (known id)) members.list index own (sound (Struct members) refl) is
 part_by known m index own sound is = cc
 
-sound_types : (insts : List Inst) → AreSound (typing_of insts)
+pub sound_types : (insts : List Inst) → AreSound (typing_of insts)
 unfolding typing_of
 sound_types insts = record {
   pointee = λ id class to is. sounds id (Pointer class to) is;
@@ -332,36 +333,45 @@ undef_shape typing s inst (Some class.Composite) places no_store uses variable f
 undef_shape typing s inst (Some (class.Scalar operation)) places no_store uses variable fit = scalar_shape typing operation (word_at 0 inst) (words_from 2 inst) fit
 undef_shape typing s inst other places no_store uses variable fit = cc
 
+no_variable_type : is_type op.VARIABLE ≡ false
+unfolding class_of entry_of
+no_variable_type = refl
+
 -- a variable's type
-variable_shape : (g : Planned) (place : ℕ) → function_at g.words.insts ≤ place → place < length g.words.insts → (inst_at g.words.insts place).op == op.VARIABLE ≡ true → is_shape (meaning g.words.insts (word_at 0 (inst_at g.words.insts place))) ≡ true
-variable_shape g place low within is =
-    let insts = g.words.insts in
+variable_shape : (words : Words) → IsValidList words → (place : ℕ) → place < length words.insts → (inst_at words.insts place).op == op.VARIABLE ≡ true → is_shape (meaning words.insts (word_at 0 (inst_at words.insts place))) ≡ true
+variable_shape words v place within is =
+    let insts = words.insts in
     let inst = inst_at insts place in
-    let points = unbroken (known_before insts place) inst (keeps_rules g.words g.valid.sound place within).types (fails_function g is_type_class type_fails place low within) is in
+    let points = unbroken (known_before insts place) inst (keeps_rules words v.sound place within).types (ap is_type (eqb-true inst.op op.VARIABLE is) ∙ no_variable_type) is in
     let p = pointer_by (meaning_in (known_before insts place (word_at 0 inst))) (word_at 2 inst) points in
     ap is_shape (stays_known insts place (word_at 0 inst) (Pointer (word_at 2 inst) p.0) (known_before insts place (word_at 0 inst)) refl p.1)
 
-means : (insts : List Inst) (id : ℕ) → (typing_of insts).meaning id ≡ meaning insts id
+pub means : (insts : List Inst) (id : ℕ) → (typing_of insts).meaning id ≡ meaning insts id
 unfolding typing_of
 means insts id = refl
 
-fit_class : (typing : Typing) (inst : Inst) → operands_fit typing inst ≡ true → operands_fit_class typing (class_of inst.op) inst ≡ true
+pub fit_class : (typing : Typing) (inst : Inst) → operands_fit typing inst ≡ true → operands_fit_class typing (class_of inst.op) inst ≡ true
 unfolding operands_fit
 fit_class typing inst fit = fit
 
-pub type_shaped : (g : Planned) (place : ℕ) → function_at g.words.insts ≤ place → place < length g.words.insts → uses_operands (class_of (inst_at g.words.insts place).op) ≡ true
-    → has_type_word (entry_of (inst_at g.words.insts place).op) ≡ true → is_shape (meaning g.words.insts (word_at 0 (inst_at g.words.insts place))) ≡ true
-type_shaped g place low within uses has =
-    let insts = g.words.insts in
+-- a type stands first in an instruction that uses its operands, stores aside
+pub first_shaped : (words : Words) → IsValidList words → (place : ℕ) → place < length words.insts → uses_operands (class_of (inst_at words.insts place).op) ≡ true → (inst_at words.insts place).op == op.STORE ≡ false
+    → is_shape (meaning words.insts (word_at 0 (inst_at words.insts place))) ≡ true
+first_shaped words v place within uses no_store =
+    let insts = words.insts in
     let inst = inst_at insts place in
-    let s = valid_sound g.words g.valid in
+    let s = valid_sound words v in
     ap is_shape (sym (means insts (word_at 0 inst)))
-    ∙ undef_shape (typing_of insts) (sound_types insts) inst (class_of inst.op) (has_places inst (s.shaped place within)) (another (λ (o : ℕ). has_type_word (entry_of o)) op.STORE store_has inst.op has) uses
-    (λ is. ap is_shape (means insts (word_at 0 inst)) ∙ variable_shape g place low within (sym (ap (λ (of : Option Class). is_named of inst.op) is) ∙ named inst.op)) (fit_class (typing_of insts) inst (s.fit place within))
+    ∙ undef_shape (typing_of insts) (sound_types insts) inst (class_of inst.op) (has_places inst (s.shaped place within)) no_store uses
+    (λ is. ap is_shape (means insts (word_at 0 inst)) ∙ variable_shape words v place within (sym (ap (λ (of : Option Class). is_named of inst.op) is) ∙ named inst.op)) (fit_class (typing_of insts) inst (s.fit place within))
+
+pub type_shaped : (g : Planned) (place : ℕ) → place < length g.words.insts → uses_operands (class_of (inst_at g.words.insts place).op) ≡ true → has_type_word (entry_of (inst_at g.words.insts place).op) ≡ true
+    → is_shape (meaning g.words.insts (word_at 0 (inst_at g.words.insts place))) ≡ true
+type_shaped g place within uses has = first_shaped g.words g.valid place within uses (another (λ (o : ℕ). has_type_word (entry_of o)) op.STORE store_has (inst_at g.words.insts place).op has)
 
 -- it has its own name
 pub type_named : (g : Planned) (place : ℕ) → function_at g.words.insts ≤ place → place < length g.words.insts → uses_operands (class_of (inst_at g.words.insts place).op) ≡ true
     → has_type_word (entry_of (inst_at g.words.insts place).op) ≡ true → g.plan.name (word_at 0 (inst_at g.words.insts place)) ≡ word_at 0 (inst_at g.words.insts place)
 type_named g place low within uses has =
-    let s = shape_by (meaning g.words.insts (word_at 0 (inst_at g.words.insts place))) (type_shaped g place low within uses has) in
+    let s = shape_by (meaning g.words.insts (word_at 0 (inst_at g.words.insts place))) (type_shaped g place within uses has) in
     name_of_type g (word_at 0 (inst_at g.words.insts place)) s.0 s.1

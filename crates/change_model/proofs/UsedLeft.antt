@@ -184,7 +184,7 @@ switch_word name (a ∷ b ∷ words) has = by_rest _ has
     by_rest None has = cc
     by_rest (Some found) has = refl
 
-choice_word : (name : ℕ → ℕ) (inst : Inst) → is_choice inst.op ≡ true → is_some (kinds inst) ≡ true → word_at 0 (renamed name inst) ≡ name (word_at 0 inst)
+pub choice_word : (name : ℕ → ℕ) (inst : Inst) → is_choice inst.op ≡ true → is_some (kinds inst) ≡ true → word_at 0 (renamed name inst) ≡ name (word_at 0 inst)
 unfolding kinds
 choice_word name inst is has = by_tests (inst.op == op.BRANCH_CONDITIONAL) (inst.op == op.SWITCH) refl refl is
   where
@@ -199,7 +199,7 @@ choice_word name inst is has = by_tests (inst.op == op.BRANCH_CONDITIONAL) (inst
 
 -- ---- an instruction that stays
 
-kinds_same : (name : ℕ → ℕ) (inst : Inst) → is_setting_class (class_of inst.op) ≡ false → kinds (renamed name inst) ≡ kinds inst
+pub kinds_same : (name : ℕ → ℕ) (inst : Inst) → is_setting_class (class_of inst.op) ≡ false → kinds (renamed name inst) ≡ kinds inst
 unfolding kinds
 kinds_same name inst isnt = same_kinds inst.op (renamed_by name (kinds_in (entry_of inst.op) inst.words) inst.words) inst.words isnt (renamed_long name (kinds_in (entry_of inst.op) inst.words) inst.words)
 
