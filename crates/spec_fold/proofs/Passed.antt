@@ -15,17 +15,18 @@ use Rattle.change_model.specs.declared.fate.Fate.TheVariants as fate
 use Rattle.change_model.specs.Plans.{Plan, block_at}
 use Rattle.change_model.specs.PlanRules.{still_names, stays}
 use Rattle.change_model.specs.Passes.{fate_found, held_at, keeps_merge, next_held, pairs_found}
+use Rattle.typed_model.proofs.BlockParts.{clash}
 use Rattle.change_model.proofs.FoundSooner.{merges_same, named_same}
 use Rattle.spv_rewrite.specs.Ends.{next_label}
 use Rattle.spv_rewrite.proofs.BlockEnds.{label_next}
 use Rattle.spec_fold.specs.Facts.{AreFacts}
 use Rattle.spec_fold.specs.Sets.{AddsThose, AreThose, has}
-use Rattle.spec_fold.specs.Walks.{IsPassOf, IsStep, IsWalk, merges_with, names_with, plan_in, value_for}
+use Rattle.spec_fold.specs.Walks.{GoesAnywhere, IsPassOf, IsStep, IsWalk, merges_with, names_with, plan_in, value_for}
 use Rattle.spec_fold.specs.declared.facts.Facts.{Facts}
 use Rattle.spec_fold.specs.declared.marks.Marks.{Marks}
 use Rattle.spec_fold.specs.declared.walk.Walk.{Walk}
 use Rattle.spec_fold.proofs.Resolves.{found_phi}
-use Rattle.spec_fold.proofs.Steps.{Stepped, agree, fate_before, fate_here, fate_past, found_after}
+use Rattle.spec_fold.proofs.Steps.{Stepped, agree, fate_before, fate_here, fate_past, found_after, old_past}
 
 -- ---- sets
 
@@ -80,6 +81,20 @@ module _ (s : Stepped) where
           ]
       ]
 
+  some_change : s.new.changes ≡ true → GoesAnywhere (plan_in s.new)
+  some_change is = by_tests s.old.changes (stays s.what) refl refl (sym s.step.changes ∙ is)
+    where
+      before : GoesAnywhere (plan_in s.old) → GoesAnywhere (plan_in s.new)
+      before g = elim (cases_lt g.at s.place) [
+        | inl less ↦ record { at = g.at; goes = ap stays (fate_before s g.at less) ∙ g.goes }
+        | inr least ↦ absurd (clash (stays ((plan_in s.old).fate g.at)) (ap stays (old_past s g.at least)) g.goes)
+      ]
+
+      by_tests : (a b : Bool) → s.old.changes ≡ a → stays s.what ≡ b → (a || not b) ≡ true → GoesAnywhere (plan_in s.new)
+      by_tests true b was now is = before (s.had.changed was)
+      by_tests false false was now is = record { at = s.place; goes = ap stays (fate_here s) ∙ now }
+      by_tests false true was now is = cc
+
   pub walk_after : IsWalk s.facts (s.place + 1) s.new
   walk_after = record {
     count = let e = s.had.count in ap length s.step.fates ∙ length-append s.old.fates.items (s.what ∷ []) ∙ ap (λ (n : ℕ). n + 1) e;
@@ -93,6 +108,7 @@ module _ (s : Stepped) where
     held = s.step.held ∙ ap (next_held s.facts.of.now.insts s.place) s.had.held ∙ ap (held_at s.facts.of.now.insts) {x = suc s.place} {y = s.place + 1} (omega arith);
     label = s.step.label ∙ label_next s.facts.of.now s.place s.old.label (inst_at s.facts.of.now.insts s.place) s.within refl s.had.label;
     unchanged = unchanged_after;
+    changed = some_change;
   }
 
 -- nothing but a phi resolves
@@ -146,4 +162,5 @@ passed facts walk place whole w = record {
     unread = λ id. refl;
   };
   unchanged = w.unchanged;
+  changed = w.changed;
 }

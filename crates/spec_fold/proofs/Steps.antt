@@ -77,7 +77,7 @@ module _ (s : Stepped) where
       ap (λ (l : List Fate). fate_in l at) s.step.fates ∙ get_or-append_right s.old.fates.items (s.what ∷ []) s.place at fate.Stays e (omega (arith, past))
       ∙ past_stays (s.what ∷ []) (at - s.place) (omega (arith, past))
 
-  old_past : (at : ℕ) → s.place ≤ at → (plan_in s.old).fate at ≡ fate.Stays
+  pub old_past : (at : ℕ) → s.place ≤ at → (plan_in s.old).fate at ≡ fate.Stays
   old_past at past = let e = s.had.count in past_stays s.old.fates.items at (omega (arith, past, e))
 
   -- each place is before it, at it or past it

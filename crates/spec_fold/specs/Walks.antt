@@ -84,6 +84,11 @@ pub record IsFoundBefore (words : Words) (zeros : List ℕ) (place : ℕ) (plan 
   pub named : (v : IsValidList words) (at : ℕ) → plan.fate at ≡ Resolves → IsNamedAfter plan words.insts at (pairs_found plan words.insts at)
   pub names : (id : ℕ) → (plan.name id ≡ id) ⊎ IsResolvedId plan words.insts id
 
+-- an instruction doesn't stay
+pub record GoesAnywhere (plan : Plan) : Type 0 where
+  pub at : ℕ
+  pub goes : stays (plan.fate at) ≡ false
+
 -- what is kept when the instructions before a place are done
 pub record IsWalk (facts : Facts) (place : ℕ) (walk : Walk) : Type 0 where
   pub count : length walk.fates.items ≡ place
@@ -93,8 +98,10 @@ pub record IsWalk (facts : Facts) (place : ℕ) (walk : Walk) : Type 0 where
   pub held : walk.held ≡ held_at facts.of.now.insts place
   pub label : walk.label ≡ block_at facts.of.now.insts place
   pub unchanged : walk.changes ≡ false → (at : ℕ) → (plan_in walk).fate at ≡ Stays
+  pub changed : walk.changes ≡ true → GoesAnywhere (plan_in walk)
 
 -- a whole pass over a valid module, where inputs are zeros at these locations
 pub record IsPassOf (words : Words) (zeros : List ℕ) (walk : Walk) : Type 0 where
   pub found : (v : IsValidList words) → IsFound words v zeros (plan_in walk)
   pub unchanged : walk.changes ≡ false → (at : ℕ) → (plan_in walk).fate at ≡ Stays
+  pub changed : walk.changes ≡ true → GoesAnywhere (plan_in walk)

@@ -11,9 +11,13 @@ mod pass;
 mod phis;
 mod results;
 mod scalars;
+mod settle;
+mod specialiser;
 mod walk;
 mod ways;
 mod within;
 
+pub use specialiser::specialise;
 pub use spv_check::Module;
+pub use state_model::SpecValues;
 pub use std::alloc::AllocError as Memory;
