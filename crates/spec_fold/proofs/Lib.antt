@@ -1,3 +1,4 @@
 mod LoopSets
 mod Switched
 mod Nests
+mod SwitchPlaces
