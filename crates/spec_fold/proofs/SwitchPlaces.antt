@@ -152,3 +152,76 @@ some_merge : (insts : List Inst) (scope : Scope) (wanted : Option ℕ) (from : �
 some_merge insts scope wanted from head here is place e switch =
     switched insts scope wanted from head here is (word_at 1 (inst_at insts place)) (ap (λ (n : ℕ). (inst_at insts n).op) (sym e) ∙ switch)
     (ap (λ (n : ℕ). is_among (word_at 1 (inst_at insts place)) (targets (inst_at insts n))) (sym e) ∙ default_among (inst_at insts place) switch)
+
+mutual
+  pub selected : (insts : List Inst) {scope : Scope} {wanted next : Option ℕ} {from to : ℕ} (d : Sequence insts scope wanted from to next) (place : ℕ) → from ≤ place → place < to → (inst_at insts place).op ≡ op.SWITCH
+      → Selected insts (parts d) (inside d) place
+  selected insts {scope} {wanted} {from = from} (ends last here is next_is place_is) place low high switch = absurd (in_block insts scope wanted from (way.Ends last) here is tt place low (omega (arith, high, place_is)) switch)
+  selected insts {scope} {wanted} {from = from} (goes_on after here is rest) place low high switch = elim (cases_lt place after) [
+    | inl early ↦ absurd (in_block insts scope wanted from (way.GoesOn after) here is tt place low early switch)
+    | inr late ↦ selected insts rest place late high switch
+  ]
+  selected insts {scope} {wanted} {from = from} (selects head second join here is on_true on_false rest) place low high switch = elim (cases_lt place head.after) [
+    | inl early ↦ absurd (in_block insts scope wanted from (way.Selects head) here is tt place low early switch)
+    | inr late ↦ elim (cases_lt place second) [
+      | inl within ↦ selected_more insts (arm_parts on_true) (of_arm on_true) _ _ place (λ i. among_left i (arm_parts on_true) (arm_parts on_false ++ parts rest)) (λ i. among_left i (of_arm on_true) (of_arm on_false ++ inside rest))
+          (arm_selected insts on_true place late within switch)
+      | inr past ↦ selected_more insts (arm_parts on_false ++ parts rest) (of_arm on_false ++ inside rest) _ _ place (λ i. among_right i (arm_parts on_true) (arm_parts on_false ++ parts rest))
+          (λ i. among_right i (of_arm on_true) (of_arm on_false ++ inside rest)) (elim (cases_lt place join) [
+        | inl within ↦ selected_more insts (arm_parts on_false) (of_arm on_false) _ _ place (λ i. among_left i (arm_parts on_false) (parts rest)) (λ i. among_left i (of_arm on_false) (inside rest)) (arm_selected insts on_false place past within switch)
+        | inr beyond ↦ selected_more insts (parts rest) (inside rest) _ _ place (λ i. among_right i (arm_parts on_false) (parts rest)) (λ i. among_right i (of_arm on_false) (inside rest)) (selected insts rest place beyond high switch)
+      ])
+    ]
+  ]
+  selected insts {scope} {wanted} {from = from} (picks head join here is arms rest) place low high switch = elim (cases_lt place head.after) [
+    | inl early ↦
+        let p = in_block insts scope wanted from (way.Picks head) here is tt place low early switch in
+        let q = p.0 in
+        let e : place ≡ head.after - 1 = omega (arith, q) in
+        record {
+          join = join;
+          there = inl (same_interval place (head.after - 1) (join + 1) e);
+          stands = stands_at_due insts (merge_before insts place) head.merge join (sym p.1) (due_of rest);
+          arm = λ differs. elim (some_merge insts scope wanted from head here is place e switch) [
+            | inl merges ↦ absurd (differs (merges ∙ p.1))
+            | inr among ↦ arm_more insts (of_arms arms) (of_arms arms ++ inside rest) (word_at 1 (inst_at insts place)) (λ i. among_left i (of_arms arms) (inside rest)) (arm_in insts arms (word_at 1 (inst_at insts place)) among refl)
+          ];
+        }
+    | inr late ↦ elim (cases_lt place join) [
+      | inl within ↦ selected_more insts (arms_parts arms) (of_arms arms) _ _ place (λ i a. inr (among_left i (arms_parts arms) (parts rest) a)) (λ i. among_left i (of_arms arms) (inside rest)) (arms_selected insts arms place late within switch)
+      | inr beyond ↦ selected_more insts (parts rest) (inside rest) _ _ place (λ i a. inr (among_right i (arms_parts arms) (parts rest) a)) (λ i. among_right i (of_arms arms) (inside rest)) (selected insts rest place beyond high switch)
+    ]
+  ]
+  selected insts {scope} {wanted} {from = from} (loops head inner first second third here is condition body step rest) place low high switch = elim (cases_lt place head.after) [
+    | inl early ↦ absurd (in_block insts scope wanted from (way.Loops head) here is tt place low early switch)
+    | inr late ↦ elim (cases_lt place first) [
+      | inl within ↦ selected_more insts (parts condition) (inside condition) _ _ place (λ i a. inr (among_left i (parts condition) (around first second (parts body) ++ (around second third (parts step) ++ parts rest)) a))
+          (λ i a. inr (among_left i (inside condition) (around first second (inside body) ++ (around second third (inside step) ++ inside rest)) a)) (selected insts condition place late within switch)
+      | inr past ↦ selected_more insts (around first second (parts body) ++ (around second third (parts step) ++ parts rest)) (around first second (inside body) ++ (around second third (inside step) ++ inside rest)) _ _ place
+          (λ i. among_right i (around head.after first (parts condition)) _) (λ i. among_right i (around head.after first (inside condition)) _) (elim (cases_lt place second) [
+        | inl within ↦ selected_more insts (parts body) (inside body) _ _ place (λ i a. inr (among_left i (parts body) (around second third (parts step) ++ parts rest) a))
+            (λ i a. inr (among_left i (inside body) (around second third (inside step) ++ inside rest) a)) (selected insts body place past within switch)
+        | inr further ↦ selected_more insts (around second third (parts step) ++ parts rest) (around second third (inside step) ++ inside rest) _ _ place
+            (λ i. among_right i (around first second (parts body)) _) (λ i. among_right i (around first second (inside body)) _) (elim (cases_lt place third) [
+          | inl within ↦ selected_more insts (parts step) (inside step) _ _ place (λ i a. inr (among_left i (parts step) (parts rest) a)) (λ i a. inr (among_left i (inside step) (inside rest) a)) (selected insts step place further within switch)
+          | inr beyond ↦ selected_more insts (parts rest) (inside rest) _ _ place (λ i. among_right i (around second third (parts step)) (parts rest)) (λ i. among_right i (around second third (inside step)) (inside rest))
+              (selected insts rest place beyond high switch)
+        ])
+      ])
+    ]
+  ]
+
+  arm_selected : (insts : List Inst) {scope : Scope} {merge target from to : ℕ} (a : Arm insts scope merge target from to) (place : ℕ) → from ≤ place → place < to → (inst_at insts place).op ≡ op.SWITCH
+      → Selected insts (arm_parts a) (of_arm a) place
+  arm_selected insts (straight is none) place low high switch = absurd (omega (arith, none, low, high))
+  arm_selected insts (through isnt sequence) place low high switch = selected_more insts (parts sequence) (inside sequence) _ _ place (λ i a. inr a) (λ i a. inr a) (selected insts sequence place low high switch)
+
+  arms_selected : (insts : List Inst) {scope : Scope} {merge : ℕ} {all due left : List ℕ} {from to : ℕ} (a : Arms insts scope merge all due from left to) (place : ℕ) → from ≤ place → place < to → (inst_at insts place).op ≡ op.SWITCH
+      → Selected insts (arms_parts a) (of_arms a) place
+  arms_selected insts (no_arm is none) place low high switch = absurd (omega (arith, none, low, high))
+  arms_selected insts {to = to} (arm_behind label between front arms among is sequence) place low high switch = elim (cases_lt place between) [
+    | inl early ↦ selected_more insts (arms_parts arms) (of_arms arms) _ _ place (λ i. among_left i (arms_parts arms) (around between to (parts sequence))) (λ i. among_left i (of_arms arms) (around between to (inside sequence)))
+        (arms_selected insts arms place low early switch)
+    | inr late ↦ selected_more insts (parts sequence) (inside sequence) _ _ place (λ i a. among_right i (arms_parts arms) (around between to (parts sequence)) (inr a)) (λ i a. among_right i (of_arms arms) (around between to (inside sequence)) (inr a))
+        (selected insts sequence place late high switch)
+  ]
