@@ -2,3 +2,4 @@ mod LoopSets
 mod Switched
 mod Nests
 mod SwitchPlaces
+mod InnerLimits
