@@ -3,3 +3,4 @@ mod Switched
 mod Nests
 mod SwitchPlaces
 mod InnerLimits
+mod ArmsWithin

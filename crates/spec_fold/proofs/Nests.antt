@@ -140,7 +140,7 @@ block_long insts scope wanted from end here is whole =
     let l = last_within insts scope from end o whole in
     omega (arith, e, l)
 
-long : (insts : List Inst) {scope : Scope} {wanted next : Option ℕ} {from to : ℕ} → Sequence insts scope wanted from to next → from + 2 ≤ to
+pub long : (insts : List Inst) {scope : Scope} {wanted next : Option ℕ} {from to : ℕ} → Sequence insts scope wanted from to next → from + 2 ≤ to
 long insts {scope} {wanted} {from = from} (ends last here is next_is place_is) = let b = block_long insts scope wanted from (way.Ends last) here is tt in omega (arith, b, place_is)
 long insts {scope} {wanted} {from = from} (goes_on after here is rest) = let b = block_long insts scope wanted from (way.GoesOn after) here is tt in let f = (forward insts rest).forward in omega (arith, b, f)
 long insts {scope} {wanted} {from = from} (selects head second join here is on_true on_false rest) =
@@ -170,7 +170,7 @@ deep_wider from to low high is down up deep = (each_more (Inner from to) (Inner 
 tidy_deep : (from to low high : ℕ) (is : List Interval) → low < from → to < high → Tidy from to is → Deep low high is
 tidy_deep from to low high is down up tidy = (each_more (Lies from to) (Inner low high) (lies_inner from to low high down up) is tidy.0, tidy.1)
 
-around_tidy : (from to : ℕ) (is : List Interval) → from + 1 < to → Deep from to is → Tidy from to (around from to is)
+pub around_tidy : (from to : ℕ) (is : List Interval) → from + 1 < to → Deep from to is → Tidy from to (around from to is)
 around_tidy from to is much deep = ((record { low = omega arith; long = much; high = omega arith }, each_more (Inner from to) (Lies from to) (inner_lies from to) is deep.0), nests_around from to is deep.0 deep.1)
 
 joined : (from low middle start to : ℕ) (is js : List Interval) → from < low → middle ≤ start + 1 → middle < to → from ≤ start → Tidy low middle is → Deep start to js → Deep from to (is ++ js)

@@ -135,7 +135,7 @@ pub record Selected (insts : List Inst) (all inner : List Interval) (place : ℕ
   pub stands : Stands insts (merge_before insts place) join
   pub arm : (word_at 1 (inst_at insts place) ≡ merge_before insts place → ⊥) → ArmThere insts inner (word_at 1 (inst_at insts place))
 
-selected_more : (insts : List Inst) (all inner all' inner' : List Interval) (place : ℕ) → ((i : Interval) → Among i all → Among i all') → ((i : Interval) → Among i inner → Among i inner') → Selected insts all inner place
+pub selected_more : (insts : List Inst) (all inner all' inner' : List Interval) (place : ℕ) → ((i : Interval) → Among i all → Among i all') → ((i : Interval) → Among i inner → Among i inner') → Selected insts all inner place
     → Selected insts all' inner' place
 selected_more insts all inner all' inner' place more also s = record {
   join = s.join;
