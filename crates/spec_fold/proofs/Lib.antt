@@ -4,3 +4,4 @@ mod Nests
 mod SwitchPlaces
 mod InnerLimits
 mod ArmsWithin
+mod ExitSets

@@ -74,6 +74,7 @@ fn add_arm(arms: &mut IdTable<Arm>, arm: Option<Arm>) -> Result<(), AllocError>
 }
 
 /// The merge blocks of arms to which an instruction leads from a nested sequence are in the set from now on.
+#[tactic(auto, unfolding(body_model::specs::Targets::targets_by))]
 fn add_exits(
     within: &mut Marks,
     arms: &IdTable<Arm>,
