@@ -106,6 +106,10 @@ module _ (words : Words) (v : IsValidList words) where
     ]
   ]
 
+  -- it isn't the first instruction
+  pub not_first : (place : ℕ) → (inst_at words.insts place).op ≡ op.SWITCH → 0 < place
+  not_first place switch = let s = selected_at place switch in let l = (lie (interval place (s.join + 1)) s.there).low in omega (arith, l)
+
   -- a merge block belongs to one OpSwitch
   pub one_switch : (a b : ℕ) → (inst_at words.insts a).op ≡ op.SWITCH → (inst_at words.insts b).op ≡ op.SWITCH → merge_before words.insts a ≡ merge_before words.insts b → a ≡ b
   one_switch a b first second merges =

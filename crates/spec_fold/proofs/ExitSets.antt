@@ -1,30 +1,18 @@
--- The sets of merge blocks to which an instruction leads from a nested sequence, and the arms that are found before.
-use Rattle.std.proofs.Common.{◌≡◌, ℕ, zero, suc, ◌+◌, ◌-◌, ◌<◌, ◌≤◌, ◌⊎◌, inl, inr, ◌==◌, ◌&&◌, ◌||◌, not, nat_lt, if◌then◌else◌, Bool, true, false, List, [], ◌∷◌, length, map, drop, slice_index, refl, ap, sym, ◌∙◌, subst, arith, Option, None, Some}
+-- The sets of merge blocks to which an instruction leads from a nested sequence.
+use Rattle.std.proofs.Common.{◌≡◌, ℕ, ◌==◌, ◌&&◌, ◌||◌, Bool, true, false, List, [], ◌∷◌, map, drop, slice_index, refl, ap, sym, ◌∙◌, subst}
 use Rattle.std.specs.Prelude.{Result, OnOk}
-use Rattle.std.specs.List.{list_any, range_with_len}
-use Rattle.std.specs.Option.{option_map}
-use Rattle.std.proofs.lemmas.Bool.{cases_lt, lt-ltb, eqb-true, eq-eqb, and_parts}
 use Rattle.std.proofs.lemmas.Result.{on_ok_weaker}
 use Rattle.spirv_model.specs.declared.module.Inst.{Inst}
-use Rattle.spirv_model.specs.declared.module.Words.{Words}
 use Rattle.spirv_model.specs.declared.op.TheConstants as op
 use Rattle.spirv_model.specs.Operands.{word_at, words_from}
 use Rattle.body_model.specs.Switches.{Case, cases_in, cases_of, is_among}
 use Rattle.body_model.specs.Targets.{targets, targets_by}
 use Rattle.id_table.specs.declared.table.IdTable.{IdTable}
 use Rattle.id_table.specs.Tables.{at}
-use Rattle.valid_model.specs.Definitions.{inst_at, definition}
-use Rattle.check_model.specs.Intervals.{intervals_of}
-use Rattle.check_model.specs.Validity.{IsValidList}
-use Rattle.unit_model.specs.ConstantScalars.{is_left_from_within}
-use Rattle.change_model.specs.Passes.{has_one_way}
-use Rattle.spv_check.specs.SequenceLimits.{AreLimits}
-use Rattle.spec_fold.specs.Facts.{AddsArm, AreLeftWithin, arm_at, arm_behind, arm_from, has_arm, is_nested_in, leaves_to, merge_before}
-use Rattle.spec_fold.specs.Sets.{has, AddsThose, AreThose}
+use Rattle.spec_fold.specs.Facts.{is_nested_in, leaves_to}
+use Rattle.spec_fold.specs.Sets.{has, AddsThose}
 use Rattle.spec_fold.specs.declared.marks.Marks.{Marks}
 use Rattle.spec_fold.specs.declared.within.Arm.{Arm}
-use Rattle.spec_fold.proofs.ArmsWithin.{none_within, one_switch, some_within}
-use Rattle.spec_fold.proofs.LoopSets.{gathers_next}
 
 -- ---- the targets of an instruction
 

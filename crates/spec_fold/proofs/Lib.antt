@@ -5,3 +5,4 @@ mod SwitchPlaces
 mod InnerLimits
 mod ArmsWithin
 mod ExitSets
+mod ArmsFound
