@@ -177,3 +177,20 @@ left_within_are words limits arms marks limits_are arms_are are v place within s
     are (merge_before words.insts place)
     ∙ ap (by_arm_at words v limits limits_are place within switch one) (arms_are (merge_before words.insts place) ∙ found words v limits limits_are place within switch one)
     ∙ told words v limits limits_are place within switch one
+
+pub exits_next : (insts : List Inst) (limits : List ℕ) (arms : IdTable Arm) (place : ℕ) (inst : Inst) (old new : Marks) → inst ≡ inst_at insts place
+    → AreThose (λ label. list_any (leads_at insts limits arms label) (range_with_len 0 place)) old → AddsThose (leaves_to arms place (slice_index limits place) (targets inst)) old new
+    → AreThose (λ label. list_any (leads_at insts limits arms label) (range_with_len 0 (place + 1))) new
+exits_next insts limits arms place inst old new is had adds =
+    gathers_next (leads_at insts limits arms) (leaves_to arms place (slice_index limits place) (targets inst)) place old new
+    (λ label. ap (λ (i : Inst). leaves_to arms place (slice_index limits place) (targets i) label) is) had adds
+
+pub left_at_end : (words : Words) (insts : List Inst) (limits : List ℕ) (arms : IdTable Arm) (marks : Marks) (n m : ℕ) → insts ≡ words.insts → AreLimits words.insts limits → n ≤ length insts → length insts ≤ n → AreArmsBefore insts limits n arms
+    → m ≤ length insts → length insts ≤ m → AreThose (λ label. list_any (leads_at insts limits arms label) (range_with_len 0 m)) marks → AreLeftWithin words marks
+left_at_end words insts limits arms marks n m same limits_are most least arms_are up down are =
+    let count : n ≡ length insts = omega (arith, most, least) in
+    let also : m ≡ length insts = omega (arith, up, down) in
+    left_within_are words limits arms marks limits_are
+    (λ label. arms_are label ∙ ap (λ (k : ℕ). arms_before insts limits k label) count ∙ ap (λ (l : List Inst). arms_before l limits (length l) label) same)
+    (λ label. are label ∙ ap (λ (k : ℕ). list_any (leads_at insts limits arms label) (range_with_len 0 k)) also
+    ∙ ap (λ (l : List Inst). list_any (leads_at l limits arms label) (range_with_len 0 (length l))) same)
