@@ -6,3 +6,4 @@ mod InnerLimits
 mod ArmsWithin
 mod ExitSets
 mod ArmsFound
+mod ModuleParts
