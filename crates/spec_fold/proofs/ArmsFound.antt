@@ -1,5 +1,5 @@
 -- The arms that are found place by place, and what is told by the places that lead out of them.
-use Rattle.std.proofs.Common.{◌≡◌, ℕ, zero, suc, ◌+◌, ◌-◌, ◌<◌, ◌≤◌, ◌⊎◌, inl, inr, ◌==◌, ◌&&◌, ◌||◌, not, nat_lt, if◌then◌else◌, Bool, true, false, List, [], ◌∷◌, length, slice_index, refl, ap, sym, ◌∙◌, subst, arith, Option, None, Some}
+use Rattle.std.proofs.Common.{◌≡◌, ℕ, zero, suc, ◌+◌, ◌<◌, ◌≤◌, inl, inr, ◌==◌, ◌&&◌, ◌||◌, not, nat_lt, if◌then◌else◌, Bool, true, false, List, [], ◌∷◌, length, slice_index, refl, ap, sym, ◌∙◌, arith, Option, None, Some}
 use Rattle.std.specs.List.{list_any, range_with_len}
 use Rattle.std.specs.Option.{option_map}
 use Rattle.std.proofs.lemmas.Bool.{cases_lt, lt-ltb, eqb-true, eq-eqb}
@@ -18,7 +18,7 @@ use Rattle.unit_model.specs.ConstantScalars.{is_left_from_within}
 use Rattle.change_model.specs.Passes.{has_one_way}
 use Rattle.spv_check.specs.SequenceLimits.{AreLimits}
 use Rattle.spec_fold.specs.Facts.{AddsArm, AreLeftWithin, arm_at, arm_behind, arm_from, has_arm, is_nested_in, leaves_to, merge_before}
-use Rattle.spec_fold.specs.Sets.{has, AddsThose, AreThose}
+use Rattle.spec_fold.specs.Sets.{AddsThose, AreThose}
 use Rattle.spec_fold.specs.declared.marks.Marks.{Marks}
 use Rattle.spec_fold.specs.declared.within.Arm.{Arm}
 use Rattle.spec_fold.proofs.ArmsWithin.{none_within, not_first, one_switch, some_within}

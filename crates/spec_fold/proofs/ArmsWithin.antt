@@ -1,6 +1,6 @@
 -- An arm of an OpSwitch is left from within where an instruction leads to its merge block from a place before the arm's last one
 -- whose limit lies before the arm's end.
-use Rattle.std.proofs.Common.{◌≡◌, ℕ, zero, suc, ◌+◌, ◌-◌, ◌<◌, ◌≤◌, ◌⊎◌, inl, inr, Bool, true, false, ◌==◌, ◌&&◌, ◌||◌, nat_lt, nat_le, List, [], ◌∷◌, length, slice_index, refl, ap, sym, ◌∙◌, subst, arith, Option, Some}
+use Rattle.std.proofs.Common.{◌≡◌, ℕ, zero, suc, ◌+◌, ◌-◌, ◌<◌, ◌≤◌, inl, inr, Bool, true, false, ◌==◌, ◌&&◌, ◌||◌, nat_lt, nat_le, List, length, slice_index, refl, ap, sym, ◌∙◌, subst, arith, Some}
 use Rattle.std.specs.List.{list_any, range_with_len}
 use Rattle.std.proofs.lemmas.Bool.{cases_lt, lt-ltb, le-leb, ltb-true, leb-true, eqb-true, eq-eqb, and_parts, and_from}
 use Rattle.spirv_model.specs.declared.module.Inst.{Inst}
@@ -18,13 +18,12 @@ use Rattle.typed_model.proofs.ValidTypes.{keeps_rules}
 use Rattle.unit_model.specs.ConstantScalars.{begins_at, is_nested, is_left_to, is_left_from_within}
 use Rattle.change_model.proofs.LeftPlacedWhole.{labels_once, outside_silent}
 use Rattle.change_model.proofs.LeftScopes.{is_label_at, label_at}
-use Rattle.change_model.proofs.LeftTargets.{Stands}
 use Rattle.spv_check.specs.SequenceLimits.{AreLimits}
 use Rattle.spec_fold.specs.Facts.{arm_from, is_nested_in, merge_before}
 use Rattle.spec_fold.specs.declared.within.Arm.{Arm}
 use Rattle.spec_fold.proofs.InnerLimits.{any_at, some_any, limit_most, limit_ends}
 use Rattle.spec_fold.proofs.Nests.{Among, Nest, stands_before, stands_behind, has, lies_in, same, Lies, Tidy, nest_of, each_of, parts, nested, long, around_tidy, inside_parts}
-use Rattle.spec_fold.proofs.SwitchPlaces.{ArmThere, Selected, selected, selected_more}
+use Rattle.spec_fold.proofs.SwitchPlaces.{Selected, selected, selected_more}
 
 clash : {Q : Type 0} (b : Bool) → b ≡ true → b ≡ false → Q
 clash true is isnt = cc

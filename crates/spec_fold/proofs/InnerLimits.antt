@@ -1,12 +1,12 @@
 -- What limits say of the intervals of a function.
-use Rattle.std.proofs.Common.{◌≡◌, ℕ, zero, suc, ◌+◌, ◌-◌, ◌<◌, ◌≤◌, ◌⊎◌, inl, inr, Bool, true, false, not, ◌&&◌, ◌||◌, nat_lt, nat_le, List, [], ◌∷◌, length, slice_index, refl, ap, sym, ◌∙◌, subst, arith}
-use Rattle.std.specs.List.{list_all, list_any, range_with_len}
-use Rattle.std.proofs.lemmas.Bool.{cases_lt, lt-ltb, le-ltb, le-leb, lt-leb, ltb-true, leb-true, and_parts}
+use Rattle.std.proofs.Common.{◌≡◌, ℕ, ◌<◌, ◌≤◌, inl, inr, Bool, true, false, not, ◌&&◌, ◌||◌, nat_lt, nat_le, List, [], ◌∷◌, length, slice_index, refl, ap, sym, ◌∙◌, arith}
+use Rattle.std.specs.List.{list_all, list_any}
+use Rattle.std.proofs.lemmas.Bool.{cases_lt, lt-ltb, le-ltb, le-leb, ltb-true, leb-true, and_parts}
 use Rattle.spirv_model.specs.declared.module.Inst.{Inst}
 use Rattle.body_model.specs.Grammar.{Derives}
 use Rattle.check_model.specs.Intervals.{Interval, has_place, intervals_of, is_visible}
 use Rattle.spv_check.specs.SequenceLimits.{AreLimits}
-use Rattle.spec_fold.proofs.Nests.{Among, Nest, stands_before, stands_behind, has, lies_in, same}
+use Rattle.spec_fold.proofs.Nests.{Among, has}
 
 clash : {Q : Type 0} (b : Bool) → b ≡ true → b ≡ false → Q
 clash true is isnt = cc

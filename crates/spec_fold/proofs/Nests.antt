@@ -1,6 +1,6 @@
 -- The sequences of a function, and its OpSwitches each with what stands up to its merge block, are nested: two of them are apart,
 -- or one lies in the other, behind its beginning and before its end.
-use Rattle.std.proofs.Common.{◌≡◌, ℕ, ◌+◌, ◌-◌, ◌<◌, ◌≤◌, ◌⊎◌, inl, inr, List, [], ◌∷◌, ◌++◌, length, refl, ap, sym, ◌∙◌, subst, arith, Option}
+use Rattle.std.proofs.Common.{◌≡◌, ℕ, ◌+◌, ◌-◌, ◌<◌, ◌≤◌, ◌⊎◌, inl, inr, List, [], ◌∷◌, ◌++◌, ap, sym, ◌∙◌, subst, arith, Option}
 use Rattle.spirv_model.specs.declared.module.Inst.{Inst}
 use Rattle.body_model.specs.declared.block_end.BlockEnd.{BlockEnd}
 use Rattle.body_model.specs.declared.block_end.BlockEnd.TheVariants as way
@@ -11,8 +11,7 @@ use Rattle.body_model.specs.Grammar.{Sequence, ends, goes_on, selects, picks, lo
 use Rattle.body_model.proofs.Forward.{forward, arm_forward, arms_forward}
 use Rattle.body_model.proofs.Shapes.{IsWhole, after_of}
 use Rattle.check_model.specs.Intervals.{Interval, interval, around, inside, of_arm, of_arms}
-use Rattle.change_model.proofs.LeftEnds.{way as way_of, picks as picks_way}
-use Rattle.change_model.proofs.LeftFronts.{OldBlock, old_block}
+use Rattle.change_model.proofs.LeftFronts.{old_block}
 use Rattle.change_model.proofs.LeftBlockNames.{last_within}
 
 -- ---- two of them
@@ -49,7 +48,7 @@ among_right i (k ∷ is) js among = inr (among_right i is js among)
 pub among_either : (i : Interval) (is js : List Interval) → Among i (is ++ js) → Among i is ⊎ Among i js
 among_either i [] js among = inr among
 among_either i (k ∷ is) js (inl first) = inl (inl first)
-among_either i (k ∷ is) js (inr later) = elim (among_either i is js later) [ | inl left ↦ inl (inr left) | inr right ↦ inr right ]
+among_either i (k ∷ is) js (inr later) = elim (among_either i is js later) [ inl left ↦ inl (inr left) | inr right ↦ inr right ]
 
 abbrev pub Each : (Interval → Type 0) → List Interval → Type 0
 Each P [] = Unit {0}

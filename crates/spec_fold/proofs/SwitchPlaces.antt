@@ -1,5 +1,5 @@
 -- Where OpSwitches stand: the merge block of each stands behind it, and an arm of its own begins at each other target.
-use Rattle.std.proofs.Common.{◌≡◌, ℕ, ◌+◌, ◌-◌, ◌<◌, ◌≤◌, ◌⊎◌, inl, inr, Bool, true, false, ◌==◌, ◌||◌, List, [], ◌∷◌, ◌++◌, length, slice_index, map, refl, ap, sym, ◌∙◌, subst, arith, Option, Some}
+use Rattle.std.proofs.Common.{◌≡◌, ℕ, ◌+◌, ◌-◌, ◌<◌, ◌≤◌, ◌⊎◌, inl, inr, Bool, true, false, ◌==◌, ◌||◌, List, ◌++◌, slice_index, map, refl, ap, sym, ◌∙◌, subst, arith, Option}
 use Rattle.std.proofs.lemmas.Bool.{cases_lt, eqb-true, eq-eqb}
 use Rattle.spirv_model.specs.declared.module.Inst.{Inst}
 use Rattle.spirv_model.specs.declared.op.TheConstants as op
@@ -168,9 +168,9 @@ mutual
           (arm_selected insts on_true place late within switch)
       | inr past ↦ selected_more insts (arm_parts on_false ++ parts rest) (of_arm on_false ++ inside rest) _ _ place (λ i. among_right i (arm_parts on_true) (arm_parts on_false ++ parts rest))
           (λ i. among_right i (of_arm on_true) (of_arm on_false ++ inside rest)) (elim (cases_lt place join) [
-        | inl within ↦ selected_more insts (arm_parts on_false) (of_arm on_false) _ _ place (λ i. among_left i (arm_parts on_false) (parts rest)) (λ i. among_left i (of_arm on_false) (inside rest)) (arm_selected insts on_false place past within switch)
-        | inr beyond ↦ selected_more insts (parts rest) (inside rest) _ _ place (λ i. among_right i (arm_parts on_false) (parts rest)) (λ i. among_right i (of_arm on_false) (inside rest)) (selected insts rest place beyond high switch)
-      ])
+            | inl within ↦ selected_more insts (arm_parts on_false) (of_arm on_false) _ _ place (λ i. among_left i (arm_parts on_false) (parts rest)) (λ i. among_left i (of_arm on_false) (inside rest)) (arm_selected insts on_false place past within switch)
+            | inr beyond ↦ selected_more insts (parts rest) (inside rest) _ _ place (λ i. among_right i (arm_parts on_false) (parts rest)) (λ i. among_right i (of_arm on_false) (inside rest)) (selected insts rest place beyond high switch)
+          ])
     ]
   ]
   selected insts {scope} {wanted} {from = from} (picks head join here is arms rest) place low high switch = elim (cases_lt place head.after) [
@@ -199,15 +199,15 @@ mutual
           (λ i a. inr (among_left i (inside condition) (around first second (inside body) ++ (around second third (inside step) ++ inside rest)) a)) (selected insts condition place late within switch)
       | inr past ↦ selected_more insts (around first second (parts body) ++ (around second third (parts step) ++ parts rest)) (around first second (inside body) ++ (around second third (inside step) ++ inside rest)) _ _ place
           (λ i. among_right i (around head.after first (parts condition)) _) (λ i. among_right i (around head.after first (inside condition)) _) (elim (cases_lt place second) [
-        | inl within ↦ selected_more insts (parts body) (inside body) _ _ place (λ i a. inr (among_left i (parts body) (around second third (parts step) ++ parts rest) a))
-            (λ i a. inr (among_left i (inside body) (around second third (inside step) ++ inside rest) a)) (selected insts body place past within switch)
-        | inr further ↦ selected_more insts (around second third (parts step) ++ parts rest) (around second third (inside step) ++ inside rest) _ _ place
-            (λ i. among_right i (around first second (parts body)) _) (λ i. among_right i (around first second (inside body)) _) (elim (cases_lt place third) [
-          | inl within ↦ selected_more insts (parts step) (inside step) _ _ place (λ i a. inr (among_left i (parts step) (parts rest) a)) (λ i a. inr (among_left i (inside step) (inside rest) a)) (selected insts step place further within switch)
-          | inr beyond ↦ selected_more insts (parts rest) (inside rest) _ _ place (λ i. among_right i (around second third (parts step)) (parts rest)) (λ i. among_right i (around second third (inside step)) (inside rest))
-              (selected insts rest place beyond high switch)
-        ])
-      ])
+            | inl within ↦ selected_more insts (parts body) (inside body) _ _ place (λ i a. inr (among_left i (parts body) (around second third (parts step) ++ parts rest) a))
+                (λ i a. inr (among_left i (inside body) (around second third (inside step) ++ inside rest) a)) (selected insts body place past within switch)
+            | inr further ↦ selected_more insts (around second third (parts step) ++ parts rest) (around second third (inside step) ++ inside rest) _ _ place
+                (λ i. among_right i (around first second (parts body)) _) (λ i. among_right i (around first second (inside body)) _) (elim (cases_lt place third) [
+                  | inl within ↦ selected_more insts (parts step) (inside step) _ _ place (λ i a. inr (among_left i (parts step) (parts rest) a)) (λ i a. inr (among_left i (inside step) (inside rest) a)) (selected insts step place further within switch)
+                  | inr beyond ↦ selected_more insts (parts rest) (inside rest) _ _ place (λ i. among_right i (around second third (parts step)) (parts rest)) (λ i. among_right i (around second third (inside step)) (inside rest))
+                      (selected insts rest place beyond high switch)
+                ])
+          ])
     ]
   ]
 

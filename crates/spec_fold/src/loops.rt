@@ -91,12 +91,7 @@ pub fn loop_headers(alloc: Global, of: &Module, left: &Marks) -> Result<Marks, A
 }
 
 /// The block with a label is in the set from now on, if it has this instruction and that is an OpLoopMerge of a loop that stays.
-fn add_header(
-    heads: &mut Marks,
-    left: &Marks,
-    label: u32,
-    inst: &Inst,
-) -> Result<(), AllocError>
+fn add_header(heads: &mut Marks, left: &Marks, label: u32, inst: &Inst) -> Result<(), AllocError>
     ensures { OnOk result (AddsThose (heads_to left.now label inst.now) heads.old heads.new) }
 {
     if inst.op == op::LOOP_MERGE && !left.has(inst.word(0)) {

@@ -40,7 +40,13 @@ pub fn left_within(alloc: Global, of: &Module, limits: &[u32]) -> Result<Marks, 
     }
     let mut within = Marks::new(alloc, of.bound(), insts.len())?;
     for place in 0..insts.len() {
-        add_exits(&mut within, &arms, inst_at(insts, place), place as u32, limits[place])?;
+        add_exits(
+            &mut within,
+            &arms,
+            inst_at(insts, place),
+            place as u32,
+            limits[place],
+        )?;
     }
     Ok(within)
 }

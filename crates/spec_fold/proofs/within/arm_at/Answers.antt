@@ -1,4 +1,4 @@
-use Rattle.std.proofs.Common.{◌<◌, length, sym, ◌∙◌, subst, ℕ}
+use Rattle.std.proofs.Common.{◌<◌, sym, ◌∙◌, subst, ℕ}
 use Rattle.typed_model.proofs.ValidTypes.{defined_within}
 use Rattle.spec_fold.proofs.within.arm_at.Goals as goal
 
