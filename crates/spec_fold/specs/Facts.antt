@@ -50,7 +50,7 @@ arm_behind (Some arm) before label = if arm.merge == label then Some arm else be
 abbrev pub AddsArm : Option Arm → IdTable Arm → IdTable Arm → Type 0
 AddsArm arm old new = (label : ℕ) → at new label ≡ arm_behind arm (at old label) label
 
--- a place with this limit lies in a sequence that is nested in the arm
+-- a place with this limit lies in a sequence that is nested in the arm: at the arm's last place none does, whatever the limit there
 abbrev pub is_nested_in : Option Arm → (place limit : ℕ) → Bool
 is_nested_in None place limit = false
 is_nested_in (Some arm) place limit = nat_le arm.first place && nat_lt place arm.last && nat_le limit arm.last

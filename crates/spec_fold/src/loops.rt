@@ -1,6 +1,5 @@
 //! Loops, and those of them that are left at once (SPIR-V specification, section 2.11 "Structured Control Flow").
 ghost use Rattle.std.specs.Prelude.{◌≡◌, ◌<◌, length, IfOk, OnOk};
-ghost use Rattle.check_model.specs.Validity.{IsValidList};
 ghost use Rattle.unit_model.specs.ConstantScalars.{is_merge_of_loop};
 ghost use Rattle.change_model.specs.Passes as passes;
 ghost use Rattle.change_model.specs.Passes.{heads_loop, is_left_loop, is_label};

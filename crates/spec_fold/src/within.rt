@@ -1,6 +1,6 @@
 //! Arms of an OpSwitch without literals that are left from within (SPIR-V specification, section 2.11 "Structured Control
 //! Flow").
-ghost use Rattle.std.specs.Prelude.{◌≡◌, ◌<◌, ◌^◌, [], ◌∷◌, map, length, IfOk, OnOk};
+ghost use Rattle.std.specs.Prelude.{◌≡◌, ◌<◌, [], ◌∷◌, map, length, IfOk, OnOk};
 ghost use Rattle.body_model.specs.Switches.{cases_in};
 ghost use Rattle.body_model.specs.Switches as switches;
 ghost use Rattle.body_model.specs.Targets.{targets};
