@@ -1,6 +1,12 @@
 mod Places
 mod LoopSets
 mod Switched
+mod Nests
+mod SwitchPlaces
+mod InnerLimits
+mod ArmsWithin
+mod ExitSets
+mod ArmsFound
 mod Decisions
 mod Bounds
 mod LonePairs

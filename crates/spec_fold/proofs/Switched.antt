@@ -1,5 +1,5 @@
 -- Where an OpSwitch on a number leads.
-use Rattle.std.proofs.Common.{◌≡◌, ℕ, List, refl, ap, sym, ◌∙◌, Option, Some}
+use Rattle.std.proofs.Common.{◌≡◌, ℕ, List, ap, sym, ◌∙◌, Option, Some}
 use Rattle.spirv_model.specs.declared.module.Inst.{Inst}
 use Rattle.spirv_model.specs.Operands.{word_at, words_from}
 use Rattle.scalar_model.specs.declared.scalar_value.Scalar.{Scalar}

@@ -1,6 +1,5 @@
 //! Loops, and those of them that are left at once (SPIR-V specification, section 2.11 "Structured Control Flow").
 ghost use Rattle.std.specs.Prelude.{◌≡◌, ◌<◌, length, IfOk, OnOk};
-ghost use Rattle.check_model.specs.Validity.{IsValidList};
 ghost use Rattle.unit_model.specs.ConstantScalars.{is_merge_of_loop};
 ghost use Rattle.change_model.specs.Passes as passes;
 ghost use Rattle.change_model.specs.Passes.{heads_loop, is_left_loop, is_label};
@@ -91,12 +90,7 @@ pub fn loop_headers(alloc: Global, of: &Module, left: &Marks) -> Result<Marks, A
 }
 
 /// The block with a label is in the set from now on, if it has this instruction and that is an OpLoopMerge of a loop that stays.
-fn add_header(
-    heads: &mut Marks,
-    left: &Marks,
-    label: u32,
-    inst: &Inst,
-) -> Result<(), AllocError>
+fn add_header(heads: &mut Marks, left: &Marks, label: u32, inst: &Inst) -> Result<(), AllocError>
     ensures { OnOk result (AddsThose (heads_to left.now label inst.now) heads.old heads.new) }
 {
     if inst.op == op::LOOP_MERGE && !left.has(inst.word(0)) {

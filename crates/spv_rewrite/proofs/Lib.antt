@@ -1,5 +1,5 @@
 pub mod BlockEnds
 pub mod Fronts
-mod KeptInsts
+pub mod KeptInsts
 mod KeptWords
 pub mod Pairs

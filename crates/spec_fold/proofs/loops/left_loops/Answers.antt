@@ -1,4 +1,4 @@
-use Rattle.std.proofs.Common.{length, refl, sym, ap, List}
+use Rattle.std.proofs.Common.{length, sym, ap, List}
 use Rattle.spirv_model.specs.declared.module.Inst.{Inst}
 use Rattle.spec_fold.proofs.LoopSets.{lefts_next, lefts_are}
 use Rattle.spec_fold.proofs.loops.left_loops.Goals as goal

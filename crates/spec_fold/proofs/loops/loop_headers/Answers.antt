@@ -1,5 +1,4 @@
-use Rattle.std.proofs.Common.{◌∙◌, refl, sym, ap, List}
-use Rattle.spirv_model.specs.declared.module.Inst.{Inst}
+use Rattle.std.proofs.Common.{◌∙◌}
 use Rattle.spirv_model.specs.declared.module.Words.{Words}
 use Rattle.spv_rewrite.proofs.BlockEnds.{label_next}
 use Rattle.spec_fold.proofs.LoopSets.{heads_next, heads_are}

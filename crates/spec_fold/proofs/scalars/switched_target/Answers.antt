@@ -1,4 +1,4 @@
-use Rattle.std.proofs.Common.{◌∙◌, ap, Option, Some}
+use Rattle.std.proofs.Common.{◌∙◌, ap, Some}
 use Rattle.scalar_model.specs.declared.scalar_value.Scalar.{Scalar}
 use Rattle.spec_fold.proofs.Switched.{switched}
 use Rattle.spec_fold.proofs.scalars.switched_target.Goals as goal
