@@ -13,3 +13,4 @@ mod LonePairs
 mod Resolves
 mod Steps
 mod Passed
+mod Turns

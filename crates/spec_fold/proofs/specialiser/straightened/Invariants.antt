@@ -6,7 +6,7 @@ use Rattle.change_model.proofs.FunctionFalls.{function_size}
 use Rattle.spec_fold.proofs.specialiser.straightened.Given as goal
 
 abbrev pub invariant-loop-now : goal.invariant-loop-now
-invariant-loop-now l = (entries : SpecValues) (old : Words) → CameOf l.zeros.now entries l.fn.first old → CameOf l.zeros.now entries l.now old
+invariant-loop-now l = (entries : SpecValues) (old : Words) → CameOf l.zeros entries l.fn.first old → CameOf l.zeros entries l.now old
 
 abbrev pub decreases-loop-now : goal.decreases-loop-now
 decreases-loop-now l = function_size l.now.insts
