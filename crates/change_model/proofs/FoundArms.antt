@@ -1,38 +1,33 @@
 -- What holds of the intervals of arms with a branch that leads to the block of a phi behind them.
-use Rattle.std.proofs.Common.{◌≡◌, ℕ, ◌+◌, ◌-◌, ◌<◌, ◌≤◌, ◌⊎◌, inl, inr, Bool, true, false, ◌==◌, List, [], ◌∷◌, ◌++◌, slice_index, refl, ap, sym, ◌∙◌, arith, Option, None, Some}
-use Rattle.std.proofs.lemmas.Bool.{cases_lt, eqb-true}
+use Rattle.std.proofs.Common.{◌≡◌, ℕ, ◌+◌, ◌<◌, ◌≤◌, inl, inr, Bool, true, false, ◌==◌, List, ◌++◌, refl, ap, sym, ◌∙◌, arith, Option, None, Some}
+use Rattle.std.proofs.lemmas.Bool.{eqb-true}
 use Rattle.spirv_model.specs.declared.module.Inst.{Inst}
 use Rattle.spirv_model.specs.declared.op.TheConstants as op
 use Rattle.spirv_model.specs.Operands.{word_at}
-use Rattle.body_model.specs.declared.scope.LoopExits.{LoopExits}
 use Rattle.body_model.specs.declared.scope.End.{End}
 use Rattle.body_model.specs.declared.block_end.BlockEnd.TheVariants as way
 use Rattle.body_model.specs.declared.block_end.SelectionHead.{SelectionHead}
-use Rattle.body_model.specs.Blocks.{exit_to, block_end}
+use Rattle.body_model.specs.Blocks.{block_end}
 use Rattle.body_model.specs.Due.{IsDue}
 use Rattle.body_model.specs.Grammar.{Sequence, Arm, straight, through, Derives}
 use Rattle.body_model.specs.Scope.{Scope, behind_selection, arm}
-use Rattle.body_model.specs.Switches.{is_among}
 use Rattle.body_model.specs.Targets.{MayLeaveTo}
-use Rattle.body_model.proofs.Forward.{sound_at, forward, arm_forward}
-use Rattle.valid_model.specs.Definitions.{inst_at}
-use Rattle.check_model.specs.Intervals.{Interval, around, inside, of_arm}
+use Rattle.body_model.proofs.Forward.{sound_at, forward}
+use Rattle.check_model.specs.Intervals.{inside, of_arm}
 use Rattle.stage_model.proofs.CodeRuns.{due_of}
 use Rattle.stage_model.proofs.Exits.{arm_exit}
-use Rattle.change_model.specs.PlanRules.{merge_labels}
-use Rattle.change_model.proofs.BlockEntries.{Begins, begins, arm_silent}
-use Rattle.change_model.proofs.ConditionNames.{HasLoop, target_names, old_select, select_way}
+use Rattle.change_model.proofs.BlockEntries.{Begins, begins}
+use Rattle.change_model.proofs.ConditionNames.{target_names, old_select, select_way}
 use Rattle.change_model.proofs.FoundCrossings.{Into, Holds, holds_unnamed, label_low, arm_crossed}
 use Rattle.change_model.proofs.FoundGoes.{still_leads}
 use Rattle.change_model.proofs.FoundPlans.{Found}
-use Rattle.change_model.proofs.LeftBlockNames.{StandsIn, inst_there, second_there}
+use Rattle.change_model.proofs.LeftBlockNames.{inst_there, second_there}
 use Rattle.change_model.proofs.LeftExits.{ExitBy, by_leave, by_loop, exit_is}
 use Rattle.change_model.proofs.LeftLeaves.{names_in}
-use Rattle.change_model.proofs.LeftPlaced.{IsArmPlaced, stands_at_due, due_label}
+use Rattle.change_model.proofs.LeftPlaced.{IsArmPlaced, stands_at_due}
 use Rattle.change_model.proofs.LeftPlacedWhole.{labels_once}
 use Rattle.change_model.proofs.LeftQuiet.{NoWay, unnamed_inside}
 use Rattle.change_model.proofs.LeftScopes.{is_label_at, label_at, names, StandsNot, Placed}
-use Rattle.change_model.proofs.LeftTargets.{Stands}
 use Rattle.change_model.proofs.ArmEntries.{unmerged_by}
 
 test_label : {Q : Type 0} (b : Bool) → (b ≡ true → Q) → (b ≡ false → Q) → Q

@@ -1,13 +1,11 @@
 -- Where a branch leads out of an arm to the merge block of its selection or OpSwitch, which may have no phis: the arm is joined to what is around.
-use Rattle.std.proofs.Common.{◌≡◌, ℕ, zero, suc, ◌+◌, ◌-◌, ◌<◌, ◌≤◌, ◌⊎◌, inl, inr, Bool, true, false, not, ◌==◌, ◌||◌, ◌&&◌, nat_lt, List, [], ◌∷◌, ◌++◌, refl, ap, sym, ◌∙◌, arith, Option, None, Some}
+use Rattle.std.proofs.Common.{◌≡◌, ℕ, zero, suc, ◌+◌, ◌-◌, ◌<◌, ◌≤◌, ◌⊎◌, inl, inr, Bool, true, false, not, ◌==◌, ◌||◌, ◌&&◌, List, [], ◌∷◌, ◌++◌, refl, ap, sym, ◌∙◌, arith, Some}
 use Rattle.std.specs.List.{list_any, range_with_len}
 use Rattle.std.proofs.lemmas.Bool.{cases_lt, eqb-true, eq-eqb}
 use Rattle.spirv_model.specs.declared.module.Inst.{Inst}
 use Rattle.spirv_model.specs.declared.op.TheConstants as op
 use Rattle.spirv_model.specs.Operands.{word_at, entry_of, class_of}
-use Rattle.body_model.specs.Grammar.{Derives}
 use Rattle.body_model.specs.Switches.{is_among}
-use Rattle.body_model.specs.Targets.{targets}
 use Rattle.valid_model.specs.Definitions.{inst_at}
 use Rattle.check_model.specs.Intervals.{Interval, interval, around, intervals_of}
 use Rattle.typed_model.proofs.Keeping.{LieIn}
@@ -25,11 +23,11 @@ use Rattle.change_model.proofs.FoundOrigins.{Origin, goes_away, by_phi, by_load,
 use Rattle.change_model.proofs.FoundOrigins as source
 use Rattle.change_model.proofs.FoundPlans.{Found}
 use Rattle.change_model.proofs.LeftBlocks.{is_inner}
-use Rattle.change_model.proofs.LeftBlockNames.{inner_isnt, no_merge_labels}
+use Rattle.change_model.proofs.LeftBlockNames.{inner_isnt}
 use Rattle.change_model.proofs.LeftChosen.{any_of_range}
 use Rattle.change_model.proofs.LeftFates.{inners}
 use Rattle.change_model.proofs.LeftQuiet.{Unnamed}
-use Rattle.change_model.proofs.LeftScopes.{is_label_at, label_at, names, Placed}
+use Rattle.change_model.proofs.LeftScopes.{is_label_at, label_at, names}
 use Rattle.change_model.proofs.PhiPairsLeft.{leads_alive}
 use Rattle.change_model.proofs.TakenOperands.{clash}
 

@@ -1,5 +1,5 @@
 -- What is left of the sequences with a branch that leads to the block of a phi that goes has the phi too.
-use Rattle.std.proofs.Common.{◌≡◌, ℕ, suc, ◌+◌, ◌-◌, ◌<◌, ◌≤◌, ◌⊎◌, inl, inr, Bool, true, false, not, ◌==◌, ◌||◌, ◌&&◌, nat_lt, nat_le, if◌then◌else◌, List, [], ◌∷◌, ◌++◌, slice_index, refl, ap, sym, ◌∙◌, arith, Option, None, Some}
+use Rattle.std.proofs.Common.{◌≡◌, ℕ, ◌+◌, ◌<◌, ◌≤◌, ◌⊎◌, inl, inr, Bool, true, false, ◌==◌, ◌||◌, List, [], ◌∷◌, ◌++◌, slice_index, refl, ap, sym, ◌∙◌, arith, Option, None, Some}
 use Rattle.std.specs.List.{list_any}
 use Rattle.std.proofs.lemmas.Bool.{cases_lt, eqb-true, eq-eqb}
 use Rattle.spirv_model.specs.declared.module.Inst.{Inst}
@@ -13,14 +13,13 @@ use Rattle.body_model.specs.Blocks.{block_end}
 use Rattle.body_model.specs.Due.{IsDue}
 use Rattle.body_model.specs.Grammar.{Sequence, ends, goes_on, selects, picks, loops, Arm, straight, through, Arms, no_arm, arm_behind, Derives}
 use Rattle.body_model.specs.Scope.{Scope, switch_arm, condition, body, continuing, behind_loop}
-use Rattle.body_model.specs.Switches.{is_among, without, labels_of}
+use Rattle.body_model.specs.Switches.{is_among, without}
 use Rattle.body_model.proofs.Forward.{sound_at, forward, arm_forward, arms_forward}
 use Rattle.body_model.proofs.Shapes.{IsWhole, after_of}
-use Rattle.valid_model.specs.Definitions.{inst_at}
 use Rattle.check_model.specs.Intervals.{Interval, interval, around, inside, of_arm, of_arms, intervals_of}
 use Rattle.stage_model.proofs.CodeRuns.{due_of}
 use Rattle.stage_model.proofs.Exits.{condition_exit, body_exit, continue_exit}
-use Rattle.typed_model.proofs.Keeping.{LieIn, lie_around}
+use Rattle.typed_model.proofs.Keeping.{lie_around}
 use Rattle.typed_model.proofs.VisibleJumps.{lies, arm_lies, arms_lie}
 use Rattle.change_model.specs.PlanRules.{merge_labels}
 use Rattle.change_model.proofs.BlockEntries.{arm_silent}
@@ -32,12 +31,12 @@ use Rattle.change_model.proofs.LeftBlocks.{is_inner}
 use Rattle.change_model.proofs.LeftBlockNames.{inst_there, last_within}
 use Rattle.change_model.proofs.LeftEnds.{way as way_of}
 use Rattle.change_model.proofs.LeftFronts.{OldBlock, old_block}
-use Rattle.change_model.proofs.LeftParts.{any_left, any_right, part_around}
+use Rattle.change_model.proofs.LeftParts.{any_left, any_right}
 use Rattle.change_model.proofs.LeftPlaced.{IsArmPlaced, stands_at_due, due_label, placed_next, placed_true, placed_false, placed_merge}
 use Rattle.change_model.proofs.LeftPlacedArms.{PlacedArm, AreArmsPlaced, placed_arms, placed_join}
 use Rattle.change_model.proofs.LeftPlacedLoops.{placed_test, placed_body, placed_step, placed_behind, header_stands}
-use Rattle.change_model.proofs.LeftPlacedWhole.{labels_once, placed_whole}
-use Rattle.change_model.proofs.LeftScopes.{is_label_at, label_at, names, Placed}
+use Rattle.change_model.proofs.LeftPlacedWhole.{labels_once}
+use Rattle.change_model.proofs.LeftScopes.{is_label_at, label_at, Placed}
 use Rattle.change_model.proofs.LeftWays.{loop_way}
 use Rattle.change_model.proofs.PhiEntries.{somewhere}
 use Rattle.change_model.proofs.TakenOperands.{clash}

@@ -1,5 +1,5 @@
 -- What stands for a phi that goes in the plan that one pass finds: a value that is visible before it, of a type that is no pointer.
-use Rattle.std.proofs.Common.{◌≡◌, ℕ, zero, suc, ◌+◌, ◌-◌, ◌<◌, ◌⊎◌, inl, inr, Bool, true, false, not, ◌==◌, ◌&&◌, nat_lt, if◌then◌else◌, List, [], ◌∷◌, length, map, refl, ap, sym, ◌∙◌, subst, arith, Option, None, Some}
+use Rattle.std.proofs.Common.{◌≡◌, ℕ, zero, suc, ◌-◌, ◌<◌, ◌⊎◌, inl, inr, Bool, true, false, not, ◌==◌, ◌&&◌, nat_lt, if◌then◌else◌, List, [], ◌∷◌, map, refl, ap, sym, ◌∙◌, subst, arith, Option, None, Some}
 use Rattle.std.specs.List.{list_all}
 use Rattle.std.specs.Option.{unwrap_or}
 use Rattle.std.proofs.lemmas.Bool.{cases_lt, eq-eqb, ltb-true}
@@ -15,7 +15,7 @@ use Rattle.valid_model.specs.Definitions.{definition, inst_at}
 use Rattle.valid_model.specs.Meanings.{is_constant, known_before, meaning}
 use Rattle.valid_model.specs.Types.{is_type}
 use Rattle.check_model.specs.Branches.{block_end_of}
-use Rattle.check_model.specs.Intervals.{Interval, intervals_of, is_visible}
+use Rattle.check_model.specs.Intervals.{intervals_of, is_visible}
 use Rattle.check_model.specs.OperandTypes.{is_pointer, incoming_fits}
 use Rattle.check_model.specs.Typing.{typing_of, type_id, meaning_of, type_of, has_type}
 use Rattle.check_model.specs.Visibility.{Incoming, incoming, incoming_use, use_at, is_defined_for, is_visible_use}
@@ -28,7 +28,7 @@ use Rattle.change_model.specs.declared.fate.Fate.{Fate}
 use Rattle.change_model.specs.declared.fate.Fate.TheVariants as fate
 use Rattle.change_model.specs.Plans.{is_dead, leads_from, block_at}
 use Rattle.change_model.specs.PlanRules.{is_shape, IsResolvedId}
-use Rattle.change_model.specs.Passes.{heads_loop, keeps_phis, stands_at, is_pair_left, is_end_left, pairs_found, phi_fate, phi_fate_of, IsNamedAfter}
+use Rattle.change_model.specs.Passes.{heads_loop, keeps_phis, stands_at, is_pair_left, is_end_left, pairs_found, phi_fate_of, IsNamedAfter}
 use Rattle.change_model.proofs.FoundPlans.{Found}
 use Rattle.change_model.proofs.FoundOrigins.{Origin, goes_away, by_phi, by_load, by_chain, by_untyped, by_selection, by_loop, by_end, by_branch, by_switch, by_picks, by_folds, origin, alive_fate, alive_phi, dead_fate}
 use Rattle.change_model.proofs.FoundOrigins as source

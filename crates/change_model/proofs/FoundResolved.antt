@@ -1,7 +1,7 @@
 -- What stands for a phi that goes is defined before it, visible there by the intervals that are left, and not given in its block.
-use Rattle.std.proofs.Common.{◌≡◌, ℕ, zero, suc, ◌+◌, ◌-◌, ◌<◌, ◌≤◌, ◌⊎◌, inl, inr, Bool, true, false, not, ◌==◌, ◌||◌, ◌&&◌, nat_lt, if◌then◌else◌, List, [], ◌∷◌, length, take, refl, ap, sym, ◌∙◌, subst, arith, Option, None, Some}
+use Rattle.std.proofs.Common.{◌≡◌, ℕ, zero, suc, ◌<◌, ◌≤◌, ◌⊎◌, inl, inr, Bool, true, false, not, ◌==◌, ◌||◌, ◌&&◌, nat_lt, if◌then◌else◌, List, [], ◌∷◌, length, refl, ap, sym, ◌∙◌, subst, arith, Option, Some}
 use Rattle.std.specs.List.{list_all}
-use Rattle.std.proofs.lemmas.Bool.{cases_lt, eqb-true, ltb-true, ne_eqb}
+use Rattle.std.proofs.lemmas.Bool.{ltb-true, ne_eqb}
 use Rattle.std.proofs.lemmas.Option.{slice_get-get_or}
 use Rattle.basics.proofs.Bools.{first_of_both, second_of_both}
 use Rattle.spirv_model.specs.declared.module.Inst.{Inst}
@@ -11,9 +11,8 @@ use Rattle.spirv_model.specs.declared.class.Class.{Class}
 use Rattle.spirv_model.specs.declared.class.Class.TheVariants as class
 use Rattle.body_model.specs.Classes.{is_plain_class, is_terminator_class, is_terminator}
 use Rattle.valid_model.specs.Definitions.{definition, inst_at, no_instruction, id_out_of_bound}
-use Rattle.check_model.specs.Branches.{label_behind}
 use Rattle.check_model.specs.Intervals.{Interval, intervals_of, is_visible}
-use Rattle.check_model.specs.Visibility.{Incoming}
+use Rattle.check_model.specs.Visibility.{Incoming, incoming}
 use Rattle.typed_model.proofs.EffectsRun.{instruction}
 use Rattle.typed_model.proofs.PlainRuns.{at_op}
 use Rattle.typed_model.proofs.BlockParts.{another}
@@ -21,10 +20,9 @@ use Rattle.typed_model.proofs.BlockLists.{label_behind_next}
 use Rattle.typed_model.proofs.FunctionRuns.{function_within}
 use Rattle.typed_model.proofs.TypedSteps.{seen}
 use Rattle.typed_model.proofs.ValidModules.{valid_sound}
-use Rattle.typed_model.proofs.ValidTypes.{defined_within}
 use Rattle.change_model.specs.declared.fate.Fate.TheVariants as fate
-use Rattle.change_model.specs.Plans.{block_at}
-use Rattle.change_model.specs.PlanRules.{intervals_left, is_constant_fate, IsResolvedId}
+use Rattle.change_model.specs.Plans.{predecessors_left, block_at}
+use Rattle.change_model.specs.PlanRules.{intervals_left, is_constant_fate, pairs_in, IsResolved, IsResolvedId}
 use Rattle.change_model.specs.Passes.{keeps_phis, is_there, stands_at, pairs_found}
 use Rattle.change_model.proofs.ConstantsSound.{keeps_all}
 use Rattle.change_model.proofs.FoundGoes.{still_leads}
@@ -46,7 +44,7 @@ label_words : (words : List ℕ) → result (instruction op.LABEL words) ≡ Som
 unfolding result entry_of
 label_words words = refl
 
-label_result : (inst : Inst) → inst.op == op.LABEL ≡ true → result inst ≡ Some (word_at 0 inst)
+pub label_result : (inst : Inst) → inst.op == op.LABEL ≡ true → result inst ≡ Some (word_at 0 inst)
 label_result inst is = at_op (λ (i : Inst). result i ≡ Some (word_at 0 i)) inst op.LABEL is (label_words inst.words)
 
 -- a terminator stands last in its block
@@ -140,7 +138,7 @@ module _ (f : Found) where
   -- ---- blocks
 
   -- the label of the block that a place is in stands before it
-  block_before : (at : ℕ) → at ≤ length f.words.insts → (block_at f.words.insts at ≡ 0) ⊎ ((l : ℕ) × (l < at) × (is_label_at f.words.insts l ≡ true) × (label_at f.words.insts l ≡ block_at f.words.insts at))
+  pub block_before : (at : ℕ) → at ≤ length f.words.insts → (block_at f.words.insts at ≡ 0) ⊎ ((l : ℕ) × (l < at) × (is_label_at f.words.insts l ≡ true) × (label_at f.words.insts l ≡ block_at f.words.insts at))
   block_before zero most = inl refl
   block_before (suc n) most =
       by_label (is_label_at insts n) refl (label_behind_next 0 insts n (inst_at insts n) (slice_get-get_or insts n no_instruction (omega (arith, most)))) (block_before n (omega (arith, most)))
@@ -153,19 +151,22 @@ module _ (f : Found) where
           let on = same ∙ ap (λ (b : Bool). if b then word_at 0 (inst_at insts n) else block_at insts n) isnt in
           elim before [ inl zero_is ↦ inl (on ∙ zero_is) | inr l ↦ (let low = l.1 in inr (l.0, omega (arith, low), l.2, l.3 ∙ sym on)) ]
 
-  -- no label is zero
-  label_some : (l : ℕ) → l < length f.words.insts → is_label_at f.words.insts l ≡ true → label_at f.words.insts l ≡ 0 → ⊥
+  -- no id that is given is zero
+  pub given_some : (place id : ℕ) → place < length f.words.insts → result (inst_at f.words.insts place) ≡ Some id → id ≡ 0 → ⊥
   unfolding id_out_of_bound
-  label_some l within is none =
-      let inst = inst_at insts l in
-      let bounded = true_of_result (λ id. nat_lt 0 id && nat_lt id f.words.bound) inst (word_at 0 inst) ((valid_sound f.words f.valid).shaped l within)
-      (not_false (list_all (λ id. nat_lt 0 id && nat_lt id f.words.bound) (ids inst)) (keeps_all f.words f.valid.sound l within).inside) (label_result inst is) in
-      let above = ltb-true 0 (word_at 0 inst) (first_of_both (nat_lt 0 (word_at 0 inst)) (nat_lt (word_at 0 inst) f.words.bound) bounded) in
+  given_some place id within gives none =
+      let inst = inst_at insts place in
+      let bounded = true_of_result (λ id. nat_lt 0 id && nat_lt id f.words.bound) inst id ((valid_sound f.words f.valid).shaped place within)
+      (not_false (list_all (λ id. nat_lt 0 id && nat_lt id f.words.bound) (ids inst)) (keeps_all f.words f.valid.sound place within).inside) gives in
+      let above = ltb-true 0 id (first_of_both (nat_lt 0 id) (nat_lt id f.words.bound) bounded) in
       omega (arith, above, none)
     where
       not_false : (b : Bool) → not b ≡ false → b ≡ true
       not_false true is = refl
       not_false false is = cc
+
+  label_some : (l : ℕ) → l < length f.words.insts → is_label_at f.words.insts l ≡ true → label_at f.words.insts l ≡ 0 → ⊥
+  label_some l within is none = given_some l (label_at insts l) within (label_result (inst_at insts l) is) none
 
   -- what stands before the end of the pair's block isn't in the block of the phi
   block_apart : (place : ℕ) (r : ResolvedPhi f place) → (at : ℕ) → at < r.end → block_at f.words.insts at ≡ block_at f.words.insts place → ⊥
@@ -231,3 +232,22 @@ module _ (f : Found) where
   -- of the one pair that is found where a phi goes
   pub resolved_value : (place : ℕ) (pair : Incoming) → f.plan.fate place ≡ fate.Resolves → pairs_found f.plan f.words.insts place ≡ pair ∷ [] → ResolvedValue place pair
   resolved_value place pair goes only = let r = resolved f place goes in subst (ResolvedValue place) (one_pair r.pair pair (sym r.only ∙ only)) (value_of place r)
+
+  -- where this is the one pair that is left
+  pub is_resolved : (place : ℕ) (pair : Incoming) → f.plan.fate place ≡ fate.Resolves → pairs_found f.plan f.words.insts place ≡ pair ∷ []
+      → pairs_in (predecessors_left f.plan f.words.insts (block_at f.words.insts place)) (incoming (inst_at f.words.insts place)) ≡ pair ∷ [] → IsResolved f.plan f.words.insts (intervals_of f.valid.derivation) place
+  is_resolved place pair goes found only =
+      let v = resolved_value place pair goes found in
+      record {
+        pair = pair;
+        is_phi = (resolved f place goes).is_phi;
+        only = only;
+        origin = v.origin;
+        given = v.given;
+        earlier = v.earlier;
+        stands = v.stands;
+        at = v.at;
+        defined = v.defined;
+        visible = v.visible;
+        apart = v.apart;
+      }

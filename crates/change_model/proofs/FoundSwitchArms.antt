@@ -1,8 +1,8 @@
 -- What holds of the intervals of an arm of an OpSwitch with a branch that leads to the block of a phi behind all arms.
-use Rattle.std.proofs.Common.{◌≡◌, ℕ, suc, ◌+◌, ◌-◌, ◌<◌, ◌≤◌, ◌⊎◌, inl, inr, Bool, true, false, not, ◌==◌, ◌||◌, ◌&&◌, nat_lt, nat_le, if◌then◌else◌, List, [], ◌∷◌, ◌++◌, refl, ap, sym, ◌∙◌, arith, Option, None, Some}
+use Rattle.std.proofs.Common.{◌≡◌, ℕ, ◌+◌, ◌-◌, ◌<◌, ◌≤◌, inl, Bool, true, false, ◌==◌, ◌||◌, ◌&&◌, nat_lt, nat_le, if◌then◌else◌, List, [], ◌∷◌, ◌++◌, refl, ap, sym, ◌∙◌, arith, Option, None, Some}
 use Rattle.std.specs.Prelude.{filter}
-use Rattle.std.specs.List.{list_any, range_with_len}
-use Rattle.std.proofs.lemmas.Bool.{cases_lt, eqb-true, eq-eqb, lt-ltb, le-leb}
+use Rattle.std.specs.List.{list_any}
+use Rattle.std.proofs.lemmas.Bool.{eqb-true, eq-eqb, lt-ltb, le-leb}
 use Rattle.spirv_model.specs.declared.module.Inst.{Inst}
 use Rattle.spirv_model.specs.declared.op.TheConstants as op
 use Rattle.spirv_model.specs.Operands.{word_at}
@@ -12,7 +12,7 @@ use Rattle.body_model.specs.Blocks.{block_end}
 use Rattle.body_model.specs.Due.{IsDue}
 use Rattle.body_model.specs.Grammar.{Sequence, ends, goes_on, selects, picks, loops, Arms, Derives}
 use Rattle.body_model.specs.Scope.{Scope, behind_selection, switch_arm}
-use Rattle.body_model.specs.Switches.{is_among, without, labels_of}
+use Rattle.body_model.specs.Switches.{without, labels_of}
 use Rattle.body_model.proofs.Forward.{sound_at, forward, arm_forward, arms_forward}
 use Rattle.valid_model.specs.Definitions.{inst_at}
 use Rattle.check_model.specs.Intervals.{Interval, interval, around, inside, of_arm, of_arms, intervals_of}
@@ -24,12 +24,12 @@ use Rattle.unit_model.specs.ConstantScalars.{begins_at, is_nested}
 use Rattle.change_model.specs.declared.fate.Fate.{Fate}
 use Rattle.change_model.specs.declared.fate.Fate.TheVariants as fate
 use Rattle.change_model.specs.Plans.{leads_from}
-use Rattle.change_model.specs.PlanRules.{merge_labels, is_skipped, remains, intervals_left, is_left_in, is_left_within}
+use Rattle.change_model.specs.PlanRules.{is_skipped, remains, intervals_left, is_left_in, is_left_within}
 use Rattle.change_model.specs.Passes.{switched_way}
 use Rattle.change_model.proofs.BlockEntries.{Begins, begins, arms_silent}
 use Rattle.change_model.proofs.ConditionNames.{old_pick, pick_way}
-use Rattle.change_model.proofs.FoundArms.{end_names, stands_not, leaves}
-use Rattle.change_model.proofs.FoundCrossings.{Into, Holds, label_low, Skipped, arm_crossed}
+use Rattle.change_model.proofs.FoundArms.{leaves}
+use Rattle.change_model.proofs.FoundCrossings.{Into, Holds, label_low, arm_crossed}
 use Rattle.change_model.proofs.FoundFits.{within}
 use Rattle.change_model.proofs.FoundOrigins.{Origin, goes_away, by_phi, by_load, by_chain, by_untyped, by_selection, by_loop, by_end, by_branch, by_switch, by_picks, by_folds, origin}
 use Rattle.change_model.proofs.FoundOrigins as source
@@ -39,7 +39,7 @@ use Rattle.change_model.proofs.LeftChosen.{any_of_range}
 use Rattle.change_model.proofs.LeftPlaced.{stands_at_due}
 use Rattle.change_model.proofs.LeftPlacedArms.{PlacedArm}
 use Rattle.change_model.proofs.LeftPlacedWhole.{labels_once}
-use Rattle.change_model.proofs.LeftScopes.{is_label_at, label_at, names, Placed}
+use Rattle.change_model.proofs.LeftScopes.{is_label_at, label_at, Placed}
 use Rattle.change_model.proofs.ArmEntries.{unmerged_by}
 use Rattle.change_model.proofs.TakenOperands.{clash}
 

@@ -1,5 +1,5 @@
--- A value of a type that no instruction takes is used by nothing that one pass leaves, where no load and no store of it stays.
-use Rattle.std.proofs.Common.{◌≡◌, ℕ, ◌+◌, ◌<◌, ◌≤◌, ◌⊎◌, inl, inr, Bool, true, false, ◌==◌, ◌||◌, if◌then◌else◌, List, [], ◌∷◌, length, take, refl, ap, sym, ◌∙◌, subst, arith, Option, None, Some, is_some}
+-- What an instruction with other names uses, and the values of a phi that is left; which opcodes stand in the function alone.
+use Rattle.std.proofs.Common.{◌≡◌, ℕ, ◌<◌, ◌⊎◌, inl, inr, Bool, true, false, ◌==◌, ◌||◌, if◌then◌else◌, List, [], ◌∷◌, refl, ap, sym, ◌∙◌, arith, Option, None, Some, is_some}
 use Rattle.std.specs.List.{list_any}
 use Rattle.std.proofs.lemmas.Bool.{cases_lt, eqb-true, eq-eqb}
 use Rattle.std.proofs.lemmas.List.{get_or_past}
@@ -10,31 +10,18 @@ use Rattle.spirv_model.specs.declared.class.Class.TheVariants as class
 use Rattle.spirv_model.specs.declared.op.TheConstants as op
 use Rattle.spirv_model.specs.declared.table.Operand.{Operand}
 use Rattle.spirv_model.specs.declared.table.Operand.TheVariants.{IdResultType, IdResult, IdRef, LiteralInteger, Fixed, LiteralString}
-use Rattle.spirv_model.specs.Operands.{word_at, words_from, entry_of, class_of, kinds}
+use Rattle.spirv_model.specs.Operands.{word_at, entry_of, class_of, kinds}
 use Rattle.body_model.specs.Classes.{is_module_level}
 use Rattle.body_model.specs.Switches.{is_among}
 use Rattle.valid_model.specs.Definitions.{inst_at, no_instruction}
-use Rattle.valid_model.specs.Meanings.{meaning}
-use Rattle.check_model.specs.Typing.{typing_of, type_id, meaning_of, type_of}
 use Rattle.check_model.specs.Validity.{IsValidList}
-use Rattle.check_model.specs.Visibility.{Incoming, incoming_in, incoming, uses_operands, used_among, used_by, is_choice, used_ids}
+use Rattle.check_model.specs.Visibility.{Incoming, incoming_in, uses_operands, used_among, used_by, is_choice, used_ids}
 use Rattle.typed_model.proofs.ValidFunctions.{front_of}
-use Rattle.typed_model.proofs.ValidModules.{valid_sound}
-use Rattle.change_model.specs.declared.fate.Fate.{Fate}
-use Rattle.change_model.specs.declared.fate.Fate.TheVariants as fate
-use Rattle.change_model.specs.Plans.{renamed_words, renamed_by, pairs_left, phi_left, predecessors_left, block_at, kept_at, branch_to, switch_to, written_as, written_at}
-use Rattle.change_model.specs.PlanRules.{is_incoming, is_user, IsUsedNowhere}
-use Rattle.change_model.proofs.AlikeEnds.{left_behind}
+use Rattle.change_model.specs.Plans.{renamed_words, renamed_by, pairs_left}
 use Rattle.change_model.proofs.BehindLevel.{is_setting_class, end_op}
-use Rattle.change_model.proofs.FoundFits.{phi_typed}
-use Rattle.change_model.proofs.FoundNames.{pair_fits, misfit_name}
-use Rattle.change_model.proofs.FoundOrigins.{Origin, by_picks, origin}
-use Rattle.change_model.proofs.FoundPlans.{Found}
 use Rattle.change_model.proofs.PhiPairsLeft.{In}
 use Rattle.change_model.proofs.PlanRunsRenamed.{renamed}
-use Rattle.change_model.proofs.TakenOperands.{clash, is_taken_type}
-use Rattle.change_model.proofs.TakenUses.{IsPointedTo, loaded, stored, IsMisfit, misfit_used}
-use Rattle.change_model.proofs.TypesNamed.{means}
+use Rattle.change_model.proofs.TakenOperands.{clash}
 use Rattle.change_model.proofs.UsedLeft.{kinds_same, choice_word}
 
 -- ---- uses under other names
@@ -157,6 +144,10 @@ store_inside = record { no_level = refl; no_function = refl; no_end = refl; no_n
 pub chain_inside : StandsInside op.ACCESS_CHAIN
 unfolding class_of entry_of
 chain_inside = record { no_level = refl; no_function = refl; no_end = refl; no_nothing = refl }
+
+pub label_inside : StandsInside op.LABEL
+unfolding class_of entry_of
+label_inside = record { no_level = refl; no_function = refl; no_end = refl; no_nothing = refl }
 
 pub switch_inside : StandsInside op.SWITCH
 unfolding class_of entry_of

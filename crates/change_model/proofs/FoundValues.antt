@@ -1,39 +1,32 @@
 -- The value that stands for a phi that goes is visible at the phi by the intervals that are left.
-use Rattle.std.proofs.Common.{◌≡◌, ℕ, zero, suc, ◌+◌, ◌-◌, ◌<◌, ◌≤◌, ◌⊎◌, inl, inr, Bool, true, false, not, ◌==◌, ◌||◌, ◌&&◌, nat_lt, nat_le, if◌then◌else◌, List, [], ◌∷◌, length, take, refl, ap, sym, ◌∙◌, subst, arith, Option, None, Some}
+use Rattle.std.proofs.Common.{◌≡◌, ℕ, zero, suc, ◌+◌, ◌-◌, ◌<◌, ◌≤◌, Bool, true, false, not, ◌||◌, nat_lt, nat_le, if◌then◌else◌, List, [], ◌∷◌, refl, ap, sym, ◌∙◌, arith}
 use Rattle.std.specs.Prelude.{filter}
-use Rattle.std.specs.List.{list_any, range_with_len}
-use Rattle.std.proofs.lemmas.Bool.{cases_lt, and_parts, and_from, ltb-true, lt-ltb, leb-true, le-leb}
+use Rattle.std.proofs.lemmas.Bool.{and_parts, and_from, ltb-true, lt-ltb, leb-true, le-leb}
 use Rattle.std.proofs.lemmas.Option.{slice_get-get_or}
-use Rattle.basics.proofs.Bools.{first_of_both, second_of_both}
 use Rattle.spirv_model.specs.declared.module.Inst.{Inst}
 use Rattle.spirv_model.specs.declared.op.TheConstants as op
-use Rattle.spirv_model.specs.Operands.{word_at}
 use Rattle.body_model.specs.Switches.{is_among}
-use Rattle.valid_model.specs.Definitions.{definition, inst_at, no_instruction}
-use Rattle.check_model.specs.Branches.{label_behind}
-use Rattle.check_model.specs.Intervals.{Interval, inside, has_place, intervals_of, is_visible}
+use Rattle.valid_model.specs.Definitions.{inst_at, no_instruction}
+use Rattle.check_model.specs.Intervals.{Interval, has_place, intervals_of, is_visible}
 use Rattle.typed_model.specs.Jumps.{keeps}
 use Rattle.typed_model.proofs.FunctionRuns.{function_within}
 use Rattle.typed_model.proofs.LabelsBefore.{ends_in_function, stands_there, own_label_behind, same_label_behind}
 use Rattle.typed_model.proofs.TypedSteps.{seen, visible_by}
-use Rattle.change_model.specs.declared.fate.Fate.TheVariants as fate
 use Rattle.change_model.specs.Plans.{leads_from, block_at}
-use Rattle.change_model.specs.PlanRules.{merge_labels, remains, intervals_left, is_constant_fate, IsResolvedId}
-use Rattle.change_model.specs.Passes.{keeps_merge, keeps_phis, is_there, stands_at}
+use Rattle.change_model.specs.PlanRules.{merge_labels, remains, intervals_left}
+use Rattle.change_model.specs.Passes.{keeps_merge, keeps_phis}
 use Rattle.change_model.proofs.BlockEntries.{Entry, by_one, by_selection, by_switch}
 use Rattle.change_model.proofs.FoundCrossings.{Into, Holds}
 use Rattle.change_model.proofs.FoundEntries.{holds}
 use Rattle.change_model.proofs.FoundGoes.{still_leads}
-use Rattle.change_model.proofs.FoundNames.{ResolvedPhi, resolved, phi_defined}
+use Rattle.change_model.proofs.FoundNames.{ResolvedPhi}
 use Rattle.change_model.proofs.FoundPlans.{Found}
-use Rattle.change_model.proofs.LeftBlocks.{is_inner}
 use Rattle.change_model.proofs.LeftBlockNames.{inner_isnt}
 use Rattle.change_model.proofs.LeftChosen.{any_of_range}
 use Rattle.change_model.proofs.LeftFates.{inners}
 use Rattle.change_model.proofs.LeftLeaves.{named_terminator}
 use Rattle.change_model.proofs.LeftPlacedWhole.{placed_whole}
-use Rattle.change_model.proofs.LeftScopes.{is_label_at, label_at}
-use Rattle.change_model.proofs.NamesStand.{visible_fewer, visible_through}
+use Rattle.change_model.proofs.LeftScopes.{label_at}
 use Rattle.change_model.proofs.PhiEntries.{PhiIn, phi_in}
 use Rattle.change_model.proofs.TakenOperands.{clash}
 

@@ -241,6 +241,7 @@ pub mod FoundOnly
 pub mod FoundStays
 pub mod FoundNames
 pub mod FoundUses
+pub mod FoundMisfits
 pub mod FoundUnused
 pub mod FoundCrossings
 pub mod FoundArms
@@ -250,6 +251,9 @@ pub mod FoundValues
 pub mod FoundResolved
 pub mod NamedIds
 pub mod FoundReduced
+pub mod FoundInputs
+pub mod BlockIds
+pub mod FoundUnnamed
 pub mod FoundSooner
 pub mod FunctionPlaces
 pub mod ConstantChoices

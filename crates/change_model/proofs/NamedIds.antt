@@ -1,5 +1,5 @@
 -- The ids of an instruction: its result, and what its other operands are.
-use Rattle.std.proofs.Common.{◌≡◌, ℕ, zero, suc, ◌==◌, ◌||◌, ◌&&◌, ◌⊎◌, inl, inr, Bool, true, false, not, if◌then◌else◌, List, [], ◌∷◌, ◌++◌, length, map, drop, slice_index, refl, ap, sym, ◌∙◌, Option, None, Some, is_some}
+use Rattle.std.proofs.Common.{◌≡◌, ℕ, zero, suc, ◌==◌, ◌||◌, ◌⊎◌, inl, inr, Bool, true, false, not, if◌then◌else◌, List, [], ◌∷◌, ◌++◌, map, drop, slice_index, refl, ap, sym, ◌∙◌, Option, None, Some}
 use Rattle.std.specs.Prelude.{replicate}
 use Rattle.std.specs.List.{list_all}
 use Rattle.std.specs.Option.{option_map}
@@ -13,7 +13,7 @@ use Rattle.spirv_model.specs.declared.table.Rest.{Rest}
 use Rattle.spirv_model.specs.declared.table.Rest.TheVariants.{Nothing, IdRefs, LiteralIntegers, PairsIdRefIdRef, PairsLiteralIntegerIdRef}
 use Rattle.spirv_model.specs.declared.table.Entry.{Entry}
 use Rattle.spirv_model.specs.declared.table.Entry.TheVariants.{Listed, Skipped, Float}
-use Rattle.spirv_model.specs.Operands.{word_at, entry_of, operand_words, literal_and_id, rest_kinds, kinds_from, listed_of, kinds_in, kinds, ids_among, ids_by, ids, result_place, result_in, result}
+use Rattle.spirv_model.specs.Operands.{entry_of, operand_words, literal_and_id, rest_kinds, kinds_from, listed_of, kinds_in, kinds, ids_among, ids_by, ids, result_place, result_in, result}
 use Rattle.body_model.specs.Switches.{is_among}
 use Rattle.check_model.specs.Visibility.{used_among, used_by}
 use Rattle.typed_model.proofs.ResultIds.{in_rows}
@@ -109,3 +109,66 @@ all_result_rows = refl
 result_row : (opcode : ℕ) → is_result_row (entry_of opcode) ≡ true
 unfolding entry_of
 result_row opcode = in_rows (λ opcode entry. is_result_row entry) (λ opcode. refl) ROWS opcode all_result_rows
+
+-- ---- an id is the result, or used
+
+either : {Q : Type 0} (a b : Bool) → (a || b) ≡ true → (a ≡ true → Q) → (b ≡ true → Q) → Q
+either true b is here there = here refl
+either false b is here there = there is
+
+or_left : (a b : Bool) → a ≡ true → (a || b) ≡ true
+or_left true b is = refl
+or_left false b is = cc
+
+or_right : (a b : Bool) → b ≡ true → (a || b) ≡ true
+or_right true b is = refl
+or_right false b is = is
+
+abbrev IsOf : ℕ → Option Entry → List ℕ → Option ℕ → Type 0
+IsOf id entry words own = is_among id (ids_by (kinds_in entry words) words) ≡ true → (own ≡ Some id) ⊎ (is_among id (used_by (kinds_in entry words) words) ≡ true)
+
+abbrev IsListedOf : ℕ → List (Option Operand) → Rest → List ℕ → Option ℕ → Type 0
+IsListedOf id listed rest words own = is_among id (ids_by (kinds_from listed rest words) words) ≡ true → (own ≡ Some id) ⊎ (is_among id (used_by (kinds_from listed rest words) words) ≡ true)
+
+abbrev result_of : List (Option Operand) → List ℕ → Option ℕ
+result_of listed words = option_map (λ place. slice_index words place) (result_place listed)
+
+typed_of : (id : ℕ) (more : List (Option Operand)) (rest : Rest) (words : List ℕ) → no_results more ≡ true → IsListedOf id (Some IdResultType ∷ Some IdResult ∷ more) rest words (result_of (Some IdResultType ∷ Some IdResult ∷ more) words)
+typed_of id more rest [] none among = cc
+typed_of id more rest (a ∷ []) none among = cc
+typed_of id more rest (a ∷ b ∷ words) none among = by_found (kinds_from more rest words) (more_used more rest words none) among
+  where
+    by_found : (found : Option (List Operand)) → AreUsed found words → is_among id (ids_by (option_map (λ (k : List Operand). IdResultType ∷ k) (option_map (λ (k : List Operand). IdResult ∷ k) found)) (a ∷ b ∷ words)) ≡ true
+        → (Some b ≡ Some id) ⊎ (is_among id (used_by (option_map (λ (k : List Operand). IdResultType ∷ k) (option_map (λ (k : List Operand). IdResult ∷ k) found)) (a ∷ b ∷ words)) ≡ true)
+    by_found None same among = cc
+    by_found (Some k) same among =
+        either (a == id) ((b == id) || is_among id (ids_among k words)) among (λ own. inr (or_left (a == id) (is_among id (used_among k words)) own))
+        (λ later. either (b == id) (is_among id (ids_among k words)) later (λ own. inl (ap (λ (n : ℕ). Some n) (eqb-true b id own))) (λ used. inr (or_right (a == id) (is_among id (used_among k words)) (ap (is_among id) (sym same) ∙ used))))
+
+first_of : (id : ℕ) (more : List (Option Operand)) (rest : Rest) (words : List ℕ) → no_results more ≡ true → IsListedOf id (Some IdResult ∷ more) rest words (result_of (Some IdResult ∷ more) words)
+first_of id more rest [] none among = cc
+first_of id more rest (a ∷ words) none among = by_found (kinds_from more rest words) (more_used more rest words none) among
+  where
+    by_found : (found : Option (List Operand)) → AreUsed found words → is_among id (ids_by (option_map (λ (k : List Operand). IdResult ∷ k) found) (a ∷ words)) ≡ true
+        → (Some a ≡ Some id) ⊎ (is_among id (used_by (option_map (λ (k : List Operand). IdResult ∷ k) found) (a ∷ words)) ≡ true)
+    by_found None same among = cc
+    by_found (Some k) same among =
+        either (a == id) (is_among id (ids_among k words)) among (λ own. inl (ap (λ (n : ℕ). Some n) (eqb-true a id own))) (λ used. inr (ap (is_among id) (sym same) ∙ used))
+
+others_of : (id : ℕ) (listed : List (Option Operand)) (rest : Rest) (words : List ℕ) (own : Option ℕ) → no_results listed ≡ true → IsListedOf id listed rest words own
+others_of id listed rest words own none among = inr (ap (is_among id) (sym (more_used listed rest words none)) ∙ among)
+
+listed_of_ids : (id : ℕ) (listed : List (Option Operand)) (rest : Rest) (words : List ℕ) → has_result_first listed ≡ true → IsListedOf id listed rest words (result_of listed words)
+listed_of_ids id (Some IdResultType ∷ Some IdResult ∷ more) rest words first = typed_of id more rest words first
+listed_of_ids id (Some IdResult ∷ more) rest words first = first_of id more rest words first
+listed_of_ids id listed rest words first = others_of id listed rest words (result_of listed words) first
+
+entry_ids : (id : ℕ) (entry : Option Entry) (inst : Inst) → is_result_row entry ≡ true → IsOf id entry inst.words (result_in entry inst)
+entry_ids id (Some (Listed of operands)) inst first among = listed_of_ids id (listed_of operands) operands.rest inst.words first among
+entry_ids id (Some Skipped) inst first among = cc
+entry_ids id (Some Float) inst first among = cc
+entry_ids id None inst first among = cc
+
+pub ids_are : (inst : Inst) (id : ℕ) → is_among id (ids inst) ≡ true → (result inst ≡ Some id) ⊎ (is_among id (used_by (kinds inst) inst.words) ≡ true)
+unfolding ids kinds result
+ids_are inst id among = entry_ids id (entry_of inst.op) inst (result_row inst.op) among

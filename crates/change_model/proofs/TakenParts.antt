@@ -1,5 +1,5 @@
 -- What is taken apart or made of parts, stored or used as an index: values of types that are no pointers, or constants.
-use Rattle.std.proofs.Common.{◌≡◌, ℕ, zero, suc, ◌+◌, ◌==◌, ◌&&◌, ◌||◌, nat_lt, nat_le, Bool, true, false, if◌then◌else◌, List, [], ◌∷◌, length, refl, ap, sym, ◌∙◌, arith, Option, None, Some, is_some}
+use Rattle.std.proofs.Common.{◌≡◌, ℕ, suc, ◌+◌, ◌==◌, ◌&&◌, ◌||◌, nat_lt, nat_le, Bool, true, false, if◌then◌else◌, List, [], ◌∷◌, length, refl, ap, sym, ◌∙◌, arith, Option, None, Some, is_some}
 use Rattle.std.specs.Prelude.{slice_get}
 use Rattle.std.specs.List.{list_all, sum_by, zip}
 use Rattle.std.specs.Option.{option_map, option_and_then}
@@ -15,7 +15,7 @@ use Rattle.check_model.specs.declared.components.Component.TheVariants as compon
 use Rattle.check_model.specs.declared.components.Components.{Components}
 use Rattle.check_model.specs.declared.components.Part.{Part}
 use Rattle.check_model.specs.declared.components.Part.TheVariants as part
-use Rattle.check_model.specs.CompositeOperands.{is_scalar_of, part_at, part_of, part_along, is_of_type, whole_of, is_of, extract_fits, insert_fits, is_made_of, count_in, components_of, vector_parts_fit, parts_fit, is_vector_of, no_component, shuffle_into, shuffle_fits, is_truth_vector, reduction_fits}
+use Rattle.check_model.specs.CompositeOperands.{is_scalar_of, part_at, part_of, part_along, whole_of, is_of, extract_fits, insert_fits, is_made_of, count_in, components_of, vector_parts_fit, parts_fit, is_vector_of, no_component, shuffle_into, shuffle_fits, is_truth_vector, reduction_fits}
 use Rattle.check_model.specs.MemoryOperands.{is_object_of, store_fits, indexed, member_at, chain_part, chain_step, chain_along, is_pointer_to, chain_fits}
 use Rattle.check_model.specs.Typing.{Typing, type_id, meaning_of, type_of, has_type, components_in}
 use Rattle.typed_model.proofs.ReadTypes.{Each}
