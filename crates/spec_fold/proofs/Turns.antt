@@ -10,7 +10,7 @@ use Rattle.change_model.specs.Specialised.{CameOf}
 use Rattle.change_model.proofs.FoundPlans.{Found}
 use Rattle.change_model.proofs.FoundReduced.{StaysAll}
 use Rattle.change_model.proofs.FoundStraight.{folded_found, straight_found}
-use Rattle.change_model.proofs.FoundUnnamed.{unnamed_found}
+use Rattle.change_model.proofs.FoundUnnamed.{unnamed}
 use Rattle.change_model.proofs.FoundWhole.{found_is_plan, pass_again, pass_valid}
 use Rattle.change_model.proofs.FunctionFalls.{function_falls, function_size}
 use Rattle.spv_rewrite.proofs.KeptInsts.{valid_parts}
@@ -56,4 +56,4 @@ pub last_pass : (words : Words) → IsValidList words → (zeros : List ℕ) (wa
     → ((entries : SpecValues) (old : Words) → CameOf zeros entries first old → CameOf zeros entries words old) → IsStraightened zeros words first
 last_pass words v zeros walk pass unchanged first came =
     let s : StaysAll = record { found = found_of words v zeros walk pass; stays = pass.unchanged unchanged } in
-    record { came = came; folded = folded_found s; straightened = straight_found s; unnamed = unnamed_found s }
+    record { came = came; folded = folded_found s; straightened = straight_found s; unnamed = unnamed s }
