@@ -7,3 +7,6 @@ mod LonePairs
 mod Resolves
 mod Steps
 mod Passed
+mod NoResults
+mod GivenScalars
+mod SettledSteps

@@ -3,3 +3,4 @@ pub mod Loops
 pub mod Facts
 pub mod Walks
 pub mod PhiPairs
+pub mod Settles

@@ -2,7 +2,9 @@
 #![tactic(auto)]
 
 mod decide;
+mod entries;
 mod facts;
+mod given;
 mod inputs;
 mod loops;
 mod marks;
@@ -11,6 +13,7 @@ mod pass;
 mod phis;
 mod results;
 mod scalars;
+mod settle;
 mod walk;
 mod ways;
 mod within;
