@@ -1,16 +1,15 @@
 -- The scalar that an instruction gives its result is the scalar that its value is.
-use Rattle.std.proofs.Common.{◌≡◌, ◌⊎◌, inl, inr, ℕ, ◌<◌, ◌≤◌, ◌==◌, ◌&&◌, Bool, true, false, is_none, if◌then◌else◌, List, [], ◌∷◌, length, map, slice_index, refl, ap, sym, ◌∙◌, subst, arith, Option, None, Some}
+use Rattle.std.proofs.Common.{◌≡◌, ◌⊎◌, inl, inr, ℕ, ◌<◌, ◌==◌, ◌&&◌, Bool, true, false, is_none, if◌then◌else◌, List, [], ◌∷◌, length, map, slice_index, refl, ap, sym, ◌∙◌, subst, arith, Option, None, Some}
 use Rattle.std.specs.Option.{option_map, option_and_then}
 use Rattle.std.specs.List.{fold}
 use Rattle.spirv_model.specs.declared.module.Inst.{Inst}
 use Rattle.spirv_model.specs.declared.op.TheConstants as op
 use Rattle.scalar_model.specs.declared.scalar_value.Scalar.{Scalar}
 use Rattle.scalar_model.specs.declared.scalar_value.Scalar.TheVariants.{Bool as TruthOf, Word as WordOf}
-use Rattle.scalar_model.specs.Scalars.{all_known, folded, scalar_result}
+use Rattle.scalar_model.specs.Scalars.{all_known, scalar_result}
 use Rattle.state_model.specs.declared.parts.SpecValues.{SpecValues}
 use Rattle.valid_model.specs.declared.meaning.Meaning.{Meaning}
-use Rattle.valid_model.specs.declared.meaning.Meaning.TheVariants.{Absent, Shape as OfShape}
-use Rattle.valid_model.specs.declared.meaning.Shape.{Shape}
+use Rattle.valid_model.specs.declared.meaning.Meaning.TheVariants.{Shape as OfShape}
 use Rattle.valid_model.specs.declared.meaning.Shape.TheVariants.{Void, Bool as TruthType, Int, BoolVector, IntVector, Array, Struct, Pointer, Function}
 use Rattle.valid_model.specs.Definitions.{gives}
 use Rattle.valid_model.specs.Meanings.{meaning}

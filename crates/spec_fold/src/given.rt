@@ -22,7 +22,8 @@ pub fn scalar_given(
     known: &IdTable<Scalar>,
     inst: &Inst,
 ) -> Option<Scalar>
-    ensures { result ≡ settles.scalar_given of.now.insts values.now (at known.now) inst.now.op inst.now.words }
+    ensures { result ≡ settles.scalar_given of.now.insts values.now (at known.now)
+        inst.now.op inst.now.words }
 {
     let [ty, id, words @ ..] = inst.words.as_slice() else {
         return None;

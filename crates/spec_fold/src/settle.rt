@@ -16,11 +16,7 @@ use std::alloc::{AllocError, Global};
 /// The module's list with constants for its specialization constants, with the values that these entries give them, and without
 /// the numbers by which they are set. The time is linear in the words of the module.
 #[tactic(auto, unfolding(change_model::specs::Constants::constants))]
-pub fn settled(
-    alloc: Global,
-    of: &Module,
-    values: &SpecValues,
-) -> Result<Items<Inst>, AllocError>
+pub fn settled(alloc: Global, of: &Module, values: &SpecValues) -> Result<Items<Inst>, AllocError>
     ensures { IfOk result (λ list. list ≡ spec.constants values.now of.now.insts) }
 {
     let count = of.insts().len();
@@ -53,11 +49,7 @@ fn step(
 }
 
 /// From now on an id is this scalar, if it is one.
-fn note(
-    scalars: &mut IdTable<Scalar>,
-    id: u32,
-    scalar: Option<Scalar>,
-) -> Result<(), AllocError>
+fn note(scalars: &mut IdTable<Scalar>, id: u32, scalar: Option<Scalar>) -> Result<(), AllocError>
     ensures { OnOk result (Notes id scalar scalars.old scalars.new) }
 {
     match scalar {
@@ -110,9 +102,6 @@ fn is_spec_scalar(op: u16) -> bool
 {
     matches!(
         op,
-        op::SPEC_CONSTANT_TRUE
-            | op::SPEC_CONSTANT_FALSE
-            | op::SPEC_CONSTANT
-            | op::SPEC_CONSTANT_OP
+        op::SPEC_CONSTANT_TRUE | op::SPEC_CONSTANT_FALSE | op::SPEC_CONSTANT | op::SPEC_CONSTANT_OP
     )
 }
