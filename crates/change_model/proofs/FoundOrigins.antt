@@ -20,7 +20,7 @@ use Rattle.change_model.specs.Passes.{is_free, opens, held_at, is_label, leaving
 use Rattle.change_model.proofs.FoundPlans.{Found, found_at}
 use Rattle.change_model.proofs.LeftScopes.{is_label_at}
 
-choose : (P : Fate → Type 0) {x y : Fate} (b : Bool) → (b ≡ true → P x) → (b ≡ false → P y) → P (if b then x else y)
+pub choose : (P : Fate → Type 0) {x y : Fate} (b : Bool) → (b ≡ true → P x) → (b ≡ false → P y) → P (if b then x else y)
 choose P true f g = f refl
 choose P false f g = g refl
 

@@ -1,5 +1,5 @@
-mod BlockEnds
-mod Fronts
-mod KeptInsts
+pub mod BlockEnds
+pub mod Fronts
+pub mod KeptInsts
 mod KeptWords
-mod Pairs
+pub mod Pairs

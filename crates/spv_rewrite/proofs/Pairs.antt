@@ -22,7 +22,7 @@ or_false true = refl
 or_false false = refl
 
 -- a terminator that leads to a label
-leads_still : (label : ℕ) (fate : Fate) (inst : Inst) → is_among label (targets inst) ≡ true → is_among label (targets_left fate inst) ≡ still_leads label fate
+pub leads_still : (label : ℕ) (fate : Fate) (inst : Inst) → is_among label (targets inst) ≡ true → is_among label (targets_left fate inst) ≡ still_leads label fate
 leads_still label Dead inst leads = refl
 leads_still label (Goes target) inst leads = or_false (target == label)
 leads_still label (Picks target) inst leads = or_false (target == label)

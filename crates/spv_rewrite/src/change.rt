@@ -57,7 +57,7 @@ pub fn inst_at(insts: &[Inst], place: usize) -> &Inst
 }
 
 /// What becomes of the instruction at a place: it stays past the end.
-fn fate_at(fates: &[Fate], place: usize) -> Fate
+pub fn fate_at(fates: &[Fate], place: usize) -> Fate
     ensures { result ≡ fate_in fates.now place }
 {
     if place < fates.len() {
@@ -75,7 +75,7 @@ pub fn name_of(names: &[u32], id: u32) -> u32
 }
 
 /// Whether a terminator that leads to a label still does, where it has this fate.
-fn still_leads(label: u32, fate: Fate) -> bool
+pub fn still_leads(label: u32, fate: Fate) -> bool
     ensures { result ≡ still_leads label fate }
 {
     match fate {

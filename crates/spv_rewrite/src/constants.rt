@@ -33,7 +33,7 @@ pub fn push_constant(
 }
 
 /// The constant of a type with an id that is this scalar.
-fn scalar_constant(alloc: Global, ty: u32, id: u32, scalar: Scalar) -> Result<Inst, AllocError>
+pub fn scalar_constant(alloc: Global, ty: u32, id: u32, scalar: Scalar) -> Result<Inst, AllocError>
     ensures { IfOk result (λ inst. spec.scalar_constant ty id (Some (of_scalar scalar))
         ≡ Some inst) }
 {

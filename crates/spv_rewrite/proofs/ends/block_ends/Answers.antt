@@ -1,7 +1,7 @@
 use Rattle.std.proofs.Common.{refl, ◌∙◌, arith}
 use Rattle.spirv_model.specs.declared.module.Words.{Words}
 use Rattle.spv_rewrite.proofs.BlockEnds.{label_next, ends_more}
-use Rattle.spv_rewrite.proofs.block_ends.block_ends.Goals as goal
+use Rattle.spv_rewrite.proofs.ends.block_ends.Goals as goal
 
 pub loop-place-init : goal.loop-place-init
 loop-place-init c = record { label = refl; ends = λ k less is. absurd (omega (arith, less)) }
