@@ -1,5 +1,5 @@
 -- Where the function of a valid module begins and ends.
-use Rattle.std.proofs.Common.{◌≡◌, ℕ, ◌+◌, ◌-◌, ◌<◌, ◌≤◌, length, sym, ◌∙◌, arith}
+use Rattle.std.proofs.Common.{◌≡◌, ℕ, ◌+◌, ◌<◌, ◌≤◌, length, ◌∙◌, arith}
 use Rattle.std.specs.Prelude.{◌⊎◌}
 use Rattle.std.proofs.Common.{inl, inr}
 use Rattle.check_model.specs.Validity.{IsValidList}
@@ -16,7 +16,7 @@ pub nowhere : {Q : Type 0} (facts : Facts) → AreFacts facts → (v : IsValidLi
 nowhere facts are v place behind within outside =
     let e = begins_at facts are v in
     let last = v.derivation.last in
-    elim outside [ | inl before ↦ absurd (omega (arith, before, behind, e)) | inr past ↦ absurd (omega (arith, past, within, last)) ]
+    elim outside [ inl before ↦ absurd (omega (arith, before, behind, e)) | inr past ↦ absurd (omega (arith, past, within, last)) ]
 
 -- a place of the function's blocks is behind OpFunction, and before the last
 pub early : {Q : Type 0} (facts : Facts) → AreFacts facts → (v : IsValidList facts.of.now) (place : ℕ) → place ≤ facts.function → v.derivation.before < place → Q

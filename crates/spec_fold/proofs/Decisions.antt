@@ -3,7 +3,7 @@ use Rattle.std.proofs.Common.{◌≡◌, ℕ, suc, ◌+◌, ◌<◌, ◌≤◌, 
 use Rattle.std.specs.Option.{option_and_then, option_map}
 use Rattle.spirv_model.specs.declared.module.Inst.{Inst}
 use Rattle.spirv_model.specs.declared.op.TheConstants as op
-use Rattle.spirv_model.specs.Operands.{class_of, word_at, words_from}
+use Rattle.spirv_model.specs.Operands.{class_of, word_at}
 use Rattle.scalar_model.specs.declared.scalar_value.Scalar.{Scalar}
 use Rattle.scalar_model.specs.declared.scalar_value.Scalar.TheVariants.{Bool as TruthOf, Word as WordOf}
 use Rattle.scalar_model.specs.Scalars.{scalar_result}

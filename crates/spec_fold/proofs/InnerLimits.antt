@@ -6,7 +6,7 @@ use Rattle.spirv_model.specs.declared.module.Inst.{Inst}
 use Rattle.body_model.specs.Grammar.{Derives}
 use Rattle.check_model.specs.Intervals.{Interval, has_place, intervals_of, is_visible}
 use Rattle.spv_check.specs.SequenceLimits.{AreLimits}
-use Rattle.spec_fold.proofs.Nests.{Among, has}
+use Rattle.spec_fold.proofs.Nests.{Among}
 
 clash : {Q : Type 0} (b : Bool) → b ≡ true → b ≡ false → Q
 clash true is isnt = cc

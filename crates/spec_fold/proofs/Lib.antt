@@ -14,3 +14,6 @@ mod Resolves
 mod Steps
 mod Passed
 mod Turns
+mod NoResults
+mod GivenScalars
+mod SettledSteps

@@ -1,23 +1,19 @@
 -- What is kept from one instruction to the next, and at the end.
-use Rattle.std.proofs.Common.{◌≡◌, ℕ, zero, suc, ◌+◌, ◌-◌, ◌<◌, ◌≤◌, ◌==◌, ◌&&◌, ◌||◌, inl, inr, Bool, true, false, not, List, [], ◌∷◌, ◌++◌, length, refl, ap, sym, ◌∙◌, arith, subst, Option}
+use Rattle.std.proofs.Common.{◌≡◌, ℕ, zero, suc, ◌+◌, ◌<◌, ◌≤◌, ◌||◌, inl, inr, Bool, true, false, not, [], ◌∷◌, length, refl, ap, sym, ◌∙◌, arith, subst, Option}
 use Rattle.std.specs.Prelude.{◌⊎◌, OnOk, Result, Ok, Err}
 use Rattle.std.specs.List.{list_any, range_with_len}
 use Rattle.std.proofs.lemmas.Bool.{cases_lt}
 use Rattle.std.proofs.lemmas.List.{length-append}
-use Rattle.spirv_model.specs.declared.module.Inst.{Inst}
 use Rattle.spirv_model.specs.declared.op.TheConstants as op
-use Rattle.body_model.specs.Switches.{is_among}
 use Rattle.valid_model.specs.Definitions.{inst_at}
 use Rattle.check_model.specs.Intervals.{intervals_of}
 use Rattle.check_model.specs.Validity.{IsValidList}
 use Rattle.change_model.specs.declared.fate.Fate.{Fate}
 use Rattle.change_model.specs.declared.fate.Fate.TheVariants as fate
-use Rattle.change_model.specs.Plans.{Plan, block_at}
 use Rattle.change_model.specs.PlanRules.{still_names, stays}
 use Rattle.change_model.specs.Passes.{fate_found, held_at, keeps_merge, next_held, pairs_found}
 use Rattle.typed_model.proofs.BlockParts.{clash}
 use Rattle.change_model.proofs.FoundSooner.{merges_same, named_same}
-use Rattle.spv_rewrite.specs.Ends.{next_label}
 use Rattle.spv_rewrite.proofs.BlockEnds.{label_next}
 use Rattle.spec_fold.specs.Facts.{AreFacts}
 use Rattle.spec_fold.specs.Sets.{AddsThose, AreThose, has}
@@ -76,9 +72,9 @@ module _ (s : Stepped) where
       elim (cases_lt at s.place) [
         | inl less ↦ fate_before s at less ∙ s.had.unchanged n.0 at
         | inr least ↦ elim (cases_lt s.place at) [
-            | inl past ↦ fate_past s at past
-            | inr most ↦ let e : at ≡ s.place = omega (arith, least, most) in ap (plan_in s.new).fate e ∙ fate_here s ∙ stays_only s.what n.1
-          ]
+          | inl past ↦ fate_past s at past
+          | inr most ↦ let e : at ≡ s.place = omega (arith, least, most) in ap (plan_in s.new).fate e ∙ fate_here s ∙ stays_only s.what n.1
+        ]
       ]
 
   some_change : s.new.changes ≡ true → GoesAnywhere (plan_in s.new)
@@ -119,9 +115,9 @@ pub phi_only : (facts : Facts) (are : AreFacts facts) (walk : Walk) (place : ℕ
     → what ≡ fate.Resolves → (inst_at facts.of.now.insts place).op ≡ op.PHI
 phi_only facts are walk place what outside inside is = elim (cases_lt are.valid.derivation.before place) [
   | inl low ↦ elim (cases_lt place are.valid.derivation.after) [
-      | inl high ↦ found_phi facts.of.now.insts place (intervals_of are.valid.derivation) facts.zeros.now (are.valid.derivation.before + 1) (plan_in walk) (sym (inside are.valid low high) ∙ is)
-      | inr past ↦ never (sym (outside are.valid (inr past)) ∙ is)
-    ]
+    | inl high ↦ found_phi facts.of.now.insts place (intervals_of are.valid.derivation) facts.zeros.now (are.valid.derivation.before + 1) (plan_in walk) (sym (inside are.valid low high) ∙ is)
+    | inr past ↦ never (sym (outside are.valid (inr past)) ∙ is)
+  ]
   | inr before ↦ never (sym (outside are.valid (inl before)) ∙ is)
 ]
   where

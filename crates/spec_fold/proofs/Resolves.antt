@@ -1,6 +1,5 @@
 -- Nothing but a phi resolves.
-use Rattle.std.proofs.Common.{◌≡◌, ℕ, suc, ◌+◌, ◌-◌, ◌<◌, ◌≤◌, ◌==◌, ◌&&◌, ◌||◌, inl, inr, Bool, true, false, not, if◌then◌else◌, List, [], ◌∷◌, refl, ap, sym, ◌∙◌, Option, None, Some}
-use Rattle.std.specs.Prelude.{◌⊎◌}
+use Rattle.std.proofs.Common.{◌≡◌, ℕ, suc, ◌+◌, ◌-◌, ◌<◌, ◌==◌, ◌&&◌, ◌||◌, inl, inr, not, List, sym, ◌∙◌, Option, None, Some}
 use Rattle.std.specs.Option.{option_and_then}
 use Rattle.std.proofs.lemmas.Bool.{cases_lt, eqb-true}
 use Rattle.spirv_model.specs.declared.module.Inst.{Inst}
@@ -88,8 +87,8 @@ pub resolves_phi : (words : Words) (v : IsValidList words) (zeros : List ℕ) (p
     → (inst_at words.insts at).op ≡ op.PHI
 resolves_phi words v zeros plan place is at less resolves = elim (cases_lt v.derivation.before at) [
   | inl low ↦ elim (cases_lt at v.derivation.after) [
-      | inl high ↦ found_phi words.insts at (intervals_of v.derivation) zeros (v.derivation.before + 1) plan (sym (is.found v at low high less) ∙ resolves)
-      | inr past ↦ (stays words.insts at).is (sym (is.outside v at (inr past)) ∙ resolves)
-    ]
+    | inl high ↦ found_phi words.insts at (intervals_of v.derivation) zeros (v.derivation.before + 1) plan (sym (is.found v at low high less) ∙ resolves)
+    | inr past ↦ (stays words.insts at).is (sym (is.outside v at (inr past)) ∙ resolves)
+  ]
   | inr before ↦ (stays words.insts at).is (sym (is.outside v at (inl before)) ∙ resolves)
 ]

@@ -1,5 +1,5 @@
 -- What the plan says after one more instruction.
-use Rattle.std.proofs.Common.{◌≡◌, ℕ, zero, suc, ◌+◌, ◌-◌, ◌<◌, ◌≤◌, ◌==◌, ◌&&◌, ◌||◌, inl, inr, Bool, true, false, not, if◌then◌else◌, List, [], ◌∷◌, ◌++◌, length, refl, ap, sym, ◌∙◌, arith, subst, Option, None, Some}
+use Rattle.std.proofs.Common.{◌≡◌, ℕ, zero, suc, ◌+◌, ◌-◌, ◌<◌, ◌≤◌, ◌==◌, inl, inr, Bool, true, false, if◌then◌else◌, List, [], ◌∷◌, length, refl, ap, sym, ◌∙◌, arith, subst, Option, None, Some}
 use Rattle.std.specs.Prelude.{◌⊎◌}
 use Rattle.std.proofs.lemmas.Bool.{cases_lt, eqb-true, eq-eqb}
 use Rattle.std.proofs.lemmas.List.{get_or_append_left, get_or_at, get_or-append_right}
@@ -85,9 +85,9 @@ module _ (s : Stepped) where
   by_place P at before here past = elim (cases_lt at s.place) [
     | inl less ↦ before less
     | inr least ↦ elim (cases_lt s.place at) [
-        | inl more ↦ past more
-        | inr most ↦ let e : s.place ≡ at = omega (arith, least, most) in subst P e here
-      ]
+      | inl more ↦ past more
+      | inr most ↦ let e : s.place ≡ at = omega (arith, least, most) in subst P e here
+    ]
   ]
 
   -- ---- names
@@ -183,12 +183,12 @@ module _ (s : Stepped) where
   named_all : (v : IsValidList s.facts.of.now) (at : ℕ) → (plan_in s.new).fate at ≡ fate.Resolves → IsNamedAfter (plan_in s.new) s.facts.of.now.insts at (pairs_found (plan_in s.new) s.facts.of.now.insts at)
   named_all v at = by_place (λ at. (plan_in s.new).fate at ≡ fate.Resolves → IsNamedAfter (plan_in s.new) s.facts.of.now.insts at (pairs_found (plan_in s.new) s.facts.of.now.insts at)) at
       (λ less resolves.
-          let was = sym (fate_before at less) ∙ resolves in
-          subst (IsNamedAfter (plan_in s.new) s.facts.of.now.insts at) (pairs_same s.facts.of.now.insts at (plan_in s.old) (plan_in s.new) (agree at (omega (arith, less))))
-          (kept_named v at (pairs_found (plan_in s.old) s.facts.of.now.insts at) less was refl (s.had.is.named v at was)))
+      let was = sym (fate_before at less) ∙ resolves in
+      subst (IsNamedAfter (plan_in s.new) s.facts.of.now.insts at) (pairs_same s.facts.of.now.insts at (plan_in s.old) (plan_in s.new) (agree at (omega (arith, less))))
+      (kept_named v at (pairs_found (plan_in s.old) s.facts.of.now.insts at) less was refl (s.had.is.named v at was)))
       (λ resolves.
-          subst (IsNamedAfter (plan_in s.new) s.facts.of.now.insts s.place) (pairs_same s.facts.of.now.insts s.place (plan_in s.old) (plan_in s.new) (agree s.place (omega arith)))
-          (lone_named (pairs_found (plan_in s.old) s.facts.of.now.insts s.place) refl (sym fate_here ∙ resolves)))
+      subst (IsNamedAfter (plan_in s.new) s.facts.of.now.insts s.place) (pairs_same s.facts.of.now.insts s.place (plan_in s.old) (plan_in s.new) (agree s.place (omega arith)))
+      (lone_named (pairs_found (plan_in s.old) s.facts.of.now.insts s.place) refl (sym fate_here ∙ resolves)))
       (λ past resolves. let e = sym (fate_past at past) ∙ resolves in cc)
 
   -- ---- other names

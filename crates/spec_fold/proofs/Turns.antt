@@ -1,18 +1,21 @@
 -- The module that a pass makes, and the one behind the last pass.
-use Rattle.std.proofs.Common.{◌≡◌, ℕ, ◌<◌, Bool, true, false, List, refl, ap, sym, ◌∙◌, subst}
+use Rattle.std.proofs.Common.{◌≡◌, ℕ, ◌<◌, true, false, List, [], ap, sym, ◌∙◌, subst}
+use Rattle.std.specs.Prelude.{Result, Ok, Err, IfOk}
 use Rattle.spirv_model.specs.declared.module.Inst.{Inst}
 use Rattle.spirv_model.specs.declared.module.Words.{Words}
 use Rattle.check_model.specs.Validity.{IsValidList}
 use Rattle.state_model.specs.declared.parts.SpecValues.{SpecValues}
 use Rattle.change_model.specs.declared.fate.Fate.{Fate}
+use Rattle.change_model.specs.Constants.{constants, with_constants}
 use Rattle.change_model.specs.Plans.{changed, plan_of}
-use Rattle.change_model.specs.Specialised.{CameOf}
+use Rattle.change_model.specs.Specialised.{CameOf, IsSpecialised}
 use Rattle.change_model.proofs.FoundPlans.{Found}
 use Rattle.change_model.proofs.FoundReduced.{StaysAll}
 use Rattle.change_model.proofs.FoundStraight.{folded_found, straight_found}
 use Rattle.change_model.proofs.FoundUnnamed.{unnamed}
 use Rattle.change_model.proofs.FoundWhole.{found_is_plan, pass_again, pass_valid}
 use Rattle.change_model.proofs.FunctionFalls.{function_falls, function_size}
+use Rattle.change_model.proofs.Rounds.{first_round}
 use Rattle.spv_rewrite.proofs.KeptInsts.{valid_parts}
 use Rattle.spec_fold.specs.Rounds.{IsStraightened, changed_by}
 use Rattle.spec_fold.specs.Walks.{IsPassOf, plan_in}
@@ -57,3 +60,24 @@ pub last_pass : (words : Words) → IsValidList words → (zeros : List ℕ) (wa
 last_pass words v zeros walk pass unchanged first came =
     let s : StaysAll = record { found = found_of words v zeros walk pass; stays = pass.unchanged unchanged } in
     record { came = came; folded = folded_found s; straightened = straight_found s; unnamed = unnamed s }
+
+-- ---- before the first pass
+
+-- with constants for its specialization constants a module is valid
+pub settled_valid : (words : Words) → IsValidList words → (entries : SpecValues) (bound : ℕ) (insts : List Inst) → bound ≡ words.bound → insts ≡ constants entries words.insts → IsValidList (record { bound = bound; insts = insts })
+settled_valid words v entries bound insts same is = valid_parts (with_constants entries words) ((first_round [] entries words v).changes entries).valid bound insts same is
+
+-- the module behind the last pass is specialized
+pub specialised : {E : Type 0} (result : Result Words E) (words : Words) → IsValidList words → (zeros : List ℕ) (entries : SpecValues) (first : Words) → first ≡ with_constants entries words
+    → IfOk result (λ new. IsStraightened zeros new first) → IfOk result (λ new. IsSpecialised zeros entries new words)
+specialised (Err e) words v zeros entries first same is = tt
+specialised (Ok new) words v zeros entries first same is =
+    let came = is.came entries words (subst (λ (w : Words). CameOf zeros entries w words) (sym same) (first_round zeros entries words v)) in
+    record {
+      keeps = λ any. (came.changes any).keeps;
+      interface = (came.changes entries).interface;
+      specialized = came.specialized;
+      folded = is.folded;
+      straightened = is.straightened;
+      unnamed = is.unnamed;
+    }

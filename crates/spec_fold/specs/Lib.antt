@@ -4,3 +4,4 @@ pub mod Facts
 pub mod Walks
 pub mod PhiPairs
 pub mod Rounds
+pub mod Settles

@@ -1,9 +1,7 @@
 -- The one pair of a phi that is left, if there is just one.
 use Rattle.std.specs.Prelude.{ℕ, ◌&&◌, Bool, false, nat_lt, List, [], ◌∷◌, filter, Option, None, Some}
-use Rattle.spirv_model.specs.declared.module.Inst.{Inst}
 use Rattle.id_table.specs.Tables.{at}
-use Rattle.valid_model.specs.Definitions.{inst_at}
-use Rattle.check_model.specs.Visibility.{Incoming, incoming}
+use Rattle.check_model.specs.Visibility.{Incoming}
 use Rattle.change_model.specs.Plans.{fate_in}
 use Rattle.spv_rewrite.specs.PhiPairs.{still_leads}
 use Rattle.spec_fold.specs.declared.facts.Facts.{Facts}

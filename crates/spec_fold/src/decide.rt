@@ -186,7 +186,9 @@ fn test_fate(facts: &Facts<'_>, place: usize, held: Option<u32>) -> Fate
     ensures { result ≡ passes.test_fate facts.now.of.now.insts place held }
 {
     match held {
-        Some(merge) if is_label(merge, leaving_to(facts.of, &facts.loops, place)) => Fate::Goes(merge),
+        Some(merge) if is_label(merge, leaving_to(facts.of, &facts.loops, place)) => Fate::Goes(
+            merge,
+        ),
         _ => Fate::Stays,
     }
 }

@@ -2,7 +2,9 @@
 #![tactic(auto)]
 
 mod decide;
+mod entries;
 mod facts;
+mod given;
 mod inputs;
 mod loops;
 mod marks;

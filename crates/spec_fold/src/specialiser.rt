@@ -53,12 +53,7 @@ fn straightened(alloc: Global, first: Module, zeros: &[u32]) -> Result<Module, A
 }
 
 /// The module that the plan of a pass makes.
-fn changed_by(
-    alloc: Global,
-    of: &Module,
-    zeros: &[u32],
-    walk: &Walk,
-) -> Result<Module, AllocError>
+fn changed_by(alloc: Global, of: &Module, zeros: &[u32], walk: &Walk) -> Result<Module, AllocError>
     requires { IsPassOf of.now zeros.now walk.now }
     ensures { IfOk result (λ new. new ≡ changed_by (plan_in walk.now) of.now) }
 {

@@ -52,7 +52,9 @@ fn may_become_branch(facts: &Facts<'_>, place: usize) -> bool
     if !has_one_way(inst_at(insts, place)) {
         return false;
     }
-    !facts.within.has(inst_at(insts, place.saturating_sub(1)).word(0))
+    !facts
+        .within
+        .has(inst_at(insts, place.saturating_sub(1)).word(0))
 }
 
 /// Where the branch behind a merge instruction always leads, if that instruction may go.

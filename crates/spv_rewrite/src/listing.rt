@@ -5,9 +5,9 @@ ghost use Rattle.change_model.specs.Folding.{function_at};
 ghost use Rattle.change_model.specs.Plans.{changed, constant_at, later_places, written_at, plan_of};
 ghost use Rattle.spv_rewrite.specs.Changes.{IsOfModule, plan_in};
 
-use crate::ends::{block_ends, next_label};
 use crate::change::{Change, inst_at};
 use crate::constants::push_constant;
+use crate::ends::{block_ends, next_label};
 use crate::writing::push_written;
 use change_model::Fate;
 use spirv_model::{Inst, Items, op};

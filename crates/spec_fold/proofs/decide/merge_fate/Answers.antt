@@ -1,4 +1,4 @@
-use Rattle.std.proofs.Common.{sym, ◌∙◌}
+use Rattle.std.proofs.Common.{sym}
 use Rattle.check_model.specs.Intervals.{intervals_of}
 use Rattle.spec_fold.specs.Walks.{plan_in}
 use Rattle.spec_fold.proofs.Decisions.{merge_skips}

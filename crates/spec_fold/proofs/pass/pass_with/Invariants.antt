@@ -1,4 +1,3 @@
-use Rattle.std.proofs.Common.{◌≡◌}
 use Rattle.spec_fold.specs.Walks.{IsWalk}
 use Rattle.spec_fold.proofs.pass.pass_with.Given as goal
 

@@ -1,4 +1,3 @@
-use Rattle.std.proofs.Common.{ℕ}
 use Rattle.spirv_model.specs.declared.module.Words.{Words}
 use Rattle.state_model.specs.declared.parts.SpecValues.{SpecValues}
 use Rattle.change_model.specs.Specialised.{CameOf}
