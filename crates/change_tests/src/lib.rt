@@ -2,4 +2,10 @@
 #![tactic(auto)]
 
 #[cfg(test)]
+mod small_modules;
+#[cfg(test)]
+mod specialised;
+#[cfg(test)]
+mod specialising;
+#[cfg(test)]
 mod tests;
