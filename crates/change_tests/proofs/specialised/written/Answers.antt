@@ -1,0 +1,5 @@
+use Rattle.change_tests.proofs.ShortWords.{short}
+use Rattle.change_tests.proofs.specialised.written.Goals as goal
+
+pub write_module-requires-clause-short : goal.write_module-requires-clause-short
+write_module-requires-clause-short c k d within = short c.args.module.now c.insts.ensures.valid.writable c.insts.result.now c.insts.ensures.are k d within
