@@ -1,10 +1,13 @@
 pub mod Constants
 pub mod Folding
+pub mod Dropping
 pub mod Following
 pub mod Keeping
 pub mod Passes
 pub mod PlanRules
 pub mod Plans
 pub mod Programs
+pub mod Pruned
 pub mod Settling
 pub mod Specialised
+pub mod Sweeping
