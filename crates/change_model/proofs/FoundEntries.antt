@@ -38,7 +38,7 @@ use Rattle.change_model.proofs.LeftPlacedLoops.{placed_test, placed_body, placed
 use Rattle.change_model.proofs.LeftPlacedWhole.{labels_once}
 use Rattle.change_model.proofs.LeftScopes.{is_label_at, label_at, Placed}
 use Rattle.change_model.proofs.LeftWays.{loop_way}
-use Rattle.change_model.proofs.PhiEntries.{somewhere}
+use Rattle.change_model.proofs.PhiEntries.{nowhere}
 use Rattle.change_model.proofs.TakenOperands.{clash}
 
 test_label : {Q : Type 0} (b : Bool) → (b ≡ true → Q) → (b ≡ false → Q) → Q
@@ -67,7 +67,7 @@ module _ (f : Found) (place end : ℕ) (w : Into f place end) where
       by_order o (cases_lt place o.place) (omega (arith, behind, same)) (last_within insts scope from e o whole)
     where
       by_order : (o : OldBlock f.words.insts scope from e) → (place < o.place) ⊎ (o.place ≤ place) → from < place → o.place < after_of e → ⊥
-      by_order o (inl less) low most = somewhere insts scope from e o whole place (omega (arith, low)) (omega (arith, less, most)) w.phi none
+      by_order o (inl less) low most = nowhere insts scope from e o whole place (omega (arith, low)) (omega (arith, less, most)) w.phi none
       by_order o (inr past) low most =
           let at = o.place_is in
           clash (is_inner o.inst.op) (sym (ap (λ (i : Inst). is_inner i.op) (inst_there insts scope from e o)) ∙ w.front o.place (omega (arith, at, same)) past) o.isnt

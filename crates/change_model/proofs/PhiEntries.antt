@@ -7,7 +7,7 @@ use Rattle.spirv_model.specs.declared.op.TheConstants as op
 use Rattle.body_model.specs.declared.block_end.BlockEnd.{BlockEnd}
 use Rattle.body_model.specs.declared.block_end.BlockEnd.TheVariants as way
 use Rattle.body_model.specs.declared.scope.Phis.{Phis}
-use Rattle.body_model.specs.declared.scope.Phis.TheVariants.{Nowhere}
+use Rattle.body_model.specs.declared.scope.Phis.TheVariants.{Nowhere, AtHeader}
 use Rattle.body_model.specs.Blocks.{leads_to_loop, may_have_phis, rest_of_block, block_end}
 use Rattle.body_model.specs.Due.{IsDue}
 use Rattle.body_model.specs.Scope.{Scope}
@@ -19,8 +19,8 @@ use Rattle.check_model.specs.Intervals.{inside}
 use Rattle.check_model.specs.Validity.{IsValidList}
 use Rattle.stage_model.proofs.CodeRuns.{due_of}
 use Rattle.change_model.proofs.ArmEntries.{unmerged_by, other_due, true_begins, false_begins, arm_begins}
-use Rattle.change_model.proofs.BlockEntries.{SelectionTo, SwitchTo, Entry, by_one, by_selection, by_switch, arm_unmerged, arms_unmerged, begins, unlooped}
-use Rattle.change_model.proofs.LeftBlocks.{is_inner, AreInner, phi as phi_step, variable as variable_step, plain as plain_step, inner_step}
+use Rattle.change_model.proofs.BlockEntries.{Begins, SelectionTo, SwitchTo, Entry, by_one, by_selection, by_switch, arm_unmerged, arms_unmerged, begins, unlooped}
+use Rattle.change_model.proofs.LeftBlocks.{is_inner, AreInner, Thinned, none as no_more, kept, phi as phi_step, variable as variable_step, plain as plain_step, inner_step, thinned_leads}
 use Rattle.change_model.proofs.LeftBlockNames.{by_merge, block_merges, first_there, front_inner, inst_there, second_there, after_most}
 use Rattle.change_model.proofs.LeftCuts.{LabelsOnce}
 use Rattle.change_model.proofs.LeftEnds.{Way, exits, tests_true, tests_false, returns, kills, goes, selects as selects_way, picks as picks_way, loops as loops_way, way as way_of}
@@ -62,6 +62,17 @@ phi_allowed insts scope label phis variables (x ∷ xs) rest from at place here 
         let same : place ≡ from = omega (arith, low, most) in
         clash (x.op == op.PHI) (eq-eqb x.op op.PHI (sym (ap (λ (n : ℕ). (inst_at insts n).op) same ∙ ap (λ (i : Inst). i.op) (inst_is insts from x (xs ++ rest) here)) ∙ is)) isnt
 
+-- the block at a place is the header of a loop
+pub record HeadAt (insts : List Inst) (at : ℕ) : Type 0 where
+  pub place : ℕ
+  pub low : at < place
+  pub is : (inst_at insts place).op ≡ op.LOOP_MERGE
+  pub plain : (q : ℕ) → at < q → q < place → is_inner (inst_at insts q).op ≡ true
+
+same_thinned : (xs : List Inst) → Thinned xs xs
+same_thinned [] = no_more
+same_thinned (x ∷ xs) = kept refl (same_thinned xs)
+
 module _ (insts : List Inst) (scope : Scope) (from : ℕ) (end : BlockEnd) (o : OldBlock insts scope from end) where
   second_isnt : (e : BlockEnd) → Way scope (slice_index o.label.words 0) o.inst o.behind o.place e → o.place + 1 < after_of e → (inst_at insts (o.place + 1)).op ≡ op.PHI → ⊥
   second_isnt e (selects_way {last} {rest} is at branch few other) within phi = other_op (inst_at insts (o.place + 1)).op op.BRANCH_CONDITIONAL op.PHI (ap (λ (i : Inst). i.op) (second_there insts scope from end o last rest at) ∙ branch) phi refl
@@ -99,18 +110,38 @@ module _ (insts : List Inst) (scope : Scope) (from : ℕ) (end : BlockEnd) (o : 
       ]
     ]
 
-    pub somewhere : scope.phis ≡ Nowhere → ⊥
-    somewhere none =
+    -- so phis may stand there
+    pub somewhere : may_have_phis scope.phis (leads_to_loop (o.front ++ o.inst ∷ o.behind)) ≡ true
+    somewhere =
         let e = o.place_is in
         let l = behind_label in
         let b = before_last in
         let flag = may_have_phis scope.phis (leads_to_loop (o.front ++ o.inst ∷ o.behind)) in
-        clash flag
-        (phi_allowed insts scope (slice_index o.label.words 0) flag scope.first o.front (o.inst ∷ o.behind) (from + 1) (from + 1) place (next_is insts from o.label (o.front ++ o.inst ∷ o.behind) o.here) o.inner o.whole
-        (omega (arith, l)) (omega (arith, e, b)) is)
-        (ap (λ (phis : Phis). may_have_phis phis (leads_to_loop (o.front ++ o.inst ∷ o.behind))) none)
+        phi_allowed insts scope (slice_index o.label.words 0) flag scope.first o.front (o.inst ∷ o.behind) (from + 1) (from + 1) place (next_is insts from o.label (o.front ++ o.inst ∷ o.behind) o.here) o.inner o.whole
+        (omega (arith, l)) (omega (arith, e, b)) is
+
+    pub nowhere : scope.phis ≡ Nowhere → ⊥
+    nowhere none =
+        clash (may_have_phis scope.phis (leads_to_loop (o.front ++ o.inst ∷ o.behind))) somewhere (ap (λ (phis : Phis). may_have_phis phis (leads_to_loop (o.front ++ o.inst ∷ o.behind))) none)
+
+    -- where they may stand in headers of loops alone, the block is one
+    pub header : scope.phis ≡ AtHeader → HeadAt insts from
+    header headers = record {
+      place = o.place;
+      low = let b = before_last in let l = behind_label in omega (arith, b, l);
+      is = ap (λ (i : Inst). i.op) (inst_there insts scope from end o)
+      ∙ eqb-true o.inst.op op.LOOP_MERGE (sym (thinned_leads o.front o.front o.inst o.behind (same_thinned o.front) o.inner o.isnt)
+      ∙ sym (ap (λ (phis : Phis). may_have_phis phis (leads_to_loop (o.front ++ o.inst ∷ o.behind))) headers) ∙ somewhere);
+      plain = λ q less before. front_inner insts scope from end o q less before;
+    }
 
 -- ---- the block of a phi
+
+-- one branch leads only to the header of a loop
+abbrev pub Heads : (insts : List Inst) (d : Derives insts) (at : ℕ) → Entry insts d at → Type 0
+Heads insts d at (by_one after b) = HeadAt insts at
+Heads insts d at (by_selection s never) = Unit {0}
+Heads insts d at (by_switch s never) = Unit {0}
 
 pub record PhiIn (insts : List Inst) (d : Derives insts) (place : ℕ) : Type 0 where
   pub at : ℕ
@@ -119,15 +150,22 @@ pub record PhiIn (insts : List Inst) (d : Derives insts) (place : ℕ) : Type 0 
   pub is_label : is_label_at insts at ≡ true
   pub front : (q : ℕ) → at < q → q ≤ place → is_inner (inst_at insts q).op ≡ true
   pub entry : Entry insts d at
+  pub heads : Heads insts d at entry
+
+-- where one branch leads to a block, it has phis only as the header of a loop
+abbrev Suits : (insts : List Inst) (d : Derives insts) (phis : Phis) (at : ℕ) → Entry insts d at → Type 0
+Suits insts d phis at (by_one after b) = phis ≡ AtHeader
+Suits insts d phis at (by_selection s never) = Unit {0}
+Suits insts d phis at (by_switch s never) = Unit {0}
 
 -- a block has no phis, or control comes to it so
 abbrev Given : (insts : List Inst) → Derives insts → Scope → ℕ → Type 0
-Given insts d scope from = (scope.phis ≡ Nowhere) ⊎ ((d.before + 1 < from) × Entry insts d from)
+Given insts d scope from = (scope.phis ≡ Nowhere) ⊎ ((d.before + 1 < from) × (e : Entry insts d from) × Suits insts d scope.phis from e)
 
 module _ (insts : List Inst) (once : LabelsOnce insts) (d : Derives insts) where
   in_first : (scope : Scope) (wanted : Option ℕ) (from : ℕ) (end : BlockEnd) → IsDue insts wanted from → block_end insts scope from ≡ end → IsWhole end → Given insts d scope from → (place : ℕ) → from ≤ place → place < after_of end
       → (inst_at insts place).op ≡ op.PHI → PhiIn insts d place
-  in_first scope wanted from end here is whole (inl none) place low high phi = absurd (somewhere insts scope from end (old_block insts scope wanted from end here is whole) whole place low high phi none)
+  in_first scope wanted from end here is whole (inl none) place low high phi = absurd (nowhere insts scope from end (old_block insts scope wanted from end here is whole) whole place low high phi none)
   in_first scope wanted from end here is whole (inr entry) place low high phi =
       let o = old_block insts scope wanted from end here is whole in
       let b = before_last insts scope from end o whole place low high phi in
@@ -138,7 +176,13 @@ module _ (insts : List Inst) (once : LabelsOnce insts) (d : Derives insts) where
         is_label = due_label insts wanted from here;
         front = λ q less most. front_inner insts scope from end o q less (omega (arith, most, b));
         entry = entry.1;
+        heads = heads_of entry.1 entry.2;
       }
+    where
+      heads_of : (e : Entry insts d from) → Suits insts d scope.phis from e → Heads insts d from e
+      heads_of (by_one after b) headers = header insts scope from end (old_block insts scope wanted from end here is whole) whole place low high phi headers
+      heads_of (by_selection s never) suits = tt
+      heads_of (by_switch s never) suits = tt
 
   mutual
     pub phi_at : {scope : Scope} {wanted next : Option ℕ} {from to : ℕ} (s : Sequence insts scope wanted from to next) → Placed insts d scope next from to (inside s) → Given insts d scope from → (place : ℕ) → from ≤ place → place < to
@@ -157,6 +201,7 @@ module _ (insts : List Inst) (once : LabelsOnce insts) (d : Derives insts) where
             omega (arith, f', l),
             by_one after (begins insts once d scope next from to (inside rest) p after f' g label wanted (way.GoesOn after) here is tt f.within (λ q least less named. omega (arith, least, less))
                 (unmerged_by insts scope wanted from (way.GoesOn after) here is tt (label_at insts after) (λ none. none) (λ none. none))),
+            refl,
           )) place late high phi
     ]
     phi_at {scope} {wanted} {next} {from} {to} (selects head second join here is on_true on_false rest) p given place low high phi =
@@ -172,10 +217,10 @@ module _ (insts : List Inst) (once : LabelsOnce insts) (d : Derives insts) where
           | inl early ↦ in_first scope wanted from (way.Selects head) here is tt given place low early phi
           | inr late ↦ elim (cases_lt place second) [
             | inl first ↦ arm_phi on_true (placed.placed_true insts once d scope wanted next from to head second join here is on_true on_false rest p)
-                (λ label less. (omega (arith, f', l), by_one head.after (true_begins insts once d join selection label less))) place late first phi
+                (λ label less. (omega (arith, f', l), head.after, true_begins insts once d join selection label less)) place late first phi
             | inr past ↦ elim (cases_lt place join) [
               | inl other ↦ arm_phi on_false (placed.placed_false insts once d scope wanted next from to head second join here is on_true on_false rest p)
-                  (λ label less. (omega (arith, f', l, a), by_one head.after (false_begins insts once d join selection label less))) place past other phi
+                  (λ label less. (omega (arith, f', l, a), head.after, false_begins insts once d join selection label less)) place past other phi
               | inr beyond ↦
                   let label = due_label insts (Some head.merge) join (due_of rest) in
                   let here_to : from < join = omega (arith, f', a, b) in
@@ -187,6 +232,7 @@ module _ (insts : List Inst) (once : LabelsOnce insts) (d : Derives insts) where
                           | inl in_true ↦ arm_unmerged insts once d scope next from to _ p join here_to g label on_true b q least in_true among
                           | inr in_false ↦ arm_unmerged insts once d scope next from to _ p join here_to g label on_false (omega arith) q in_false less among
                         ])),
+                    tt,
                   )) place beyond high phi
             ]
           ]
@@ -202,7 +248,7 @@ module _ (insts : List Inst) (once : LabelsOnce insts) (d : Derives insts) where
           | inl early ↦ in_first scope wanted from (way.Picks head) here is tt given place low early phi
           | inr late ↦ elim (cases_lt place join) [
             | inl within ↦ arms_phi {join = join} head.after arms (placed_switch.placed_arms insts once d scope wanted next from to head join here is arms rest p)
-                (λ part between earlier label least less. (omega (arith, f', l, least), by_one head.after (arm_begins insts once d join switch part between earlier label least less)))
+                (λ part between earlier label least less. (omega (arith, f', l, least), head.after, arm_begins insts once d join switch part between earlier label least less))
                 (omega arith) place late within phi
             | inr beyond ↦
                 let label = due_label insts (Some head.merge) join (due_of rest) in
@@ -213,6 +259,7 @@ module _ (insts : List Inst) (once : LabelsOnce insts) (d : Derives insts) where
                   by_switch switch
                       (unlooped insts once d scope next from to _ p join here_to g label wanted (way.Picks head) here is tt f.within (λ none. none)
                       (λ q least less among. arms_unmerged insts once d scope next from to _ p join here_to g label arms (omega arith) q least less among)),
+                  tt,
                 )) place beyond high phi
           ]
         ]
@@ -237,6 +284,7 @@ module _ (insts : List Inst) (once : LabelsOnce insts) (d : Derives insts) where
                         | inl same ↦ other_due insts once d head.after third head.merge (due_of rest) label (λ same. omega (arith, same, t, q, r)) same
                         | inr same ↦ other_due insts once d head.after second head.next (due_of step) label (λ same. omega (arith, same, t, q)) same
                       ])),
+                  refl,
                 )) place late one phi
             | inr past ↦ elim (cases_lt place second) [
               | inl two ↦ phi_at within (placed_loop.placed_body insts once d scope wanted next from to head inner first second third here is tested within step rest p) (inl refl) place past two phi
@@ -248,13 +296,14 @@ module _ (insts : List Inst) (once : LabelsOnce insts) (d : Derives insts) where
           ]
         ]
 
-    arm_phi : {scope : Scope} {merge target low high : ℕ} (a : Arm insts scope merge target low high) → IsArmPlaced insts d a → (is_label_at insts low ≡ true → low < high → (d.before + 1 < low) × Entry insts d low) → (place : ℕ) → low ≤ place → place < high
+    arm_phi : {scope : Scope} {merge target low high : ℕ} (a : Arm insts scope merge target low high) → IsArmPlaced insts d a → (is_label_at insts low ≡ true → low < high → (d.before + 1 < low) × (after : ℕ) × Begins insts after low) → (place : ℕ) → low ≤ place → place < high
         → (inst_at insts place).op ≡ op.PHI → PhiIn insts d place
     arm_phi (straight is none) p given place least less phi = absurd (omega (arith, none, least, less))
-    arm_phi {target = target} {low = low} (through isnt sequence) p given place least less phi = phi_at sequence p (inr (given (due_label insts (Some target) low (due_of sequence)) (forward insts sequence).forward)) place least less phi
+    arm_phi {target = target} {low = low} (through isnt sequence) p given place least less phi = let g = given (due_label insts (Some target) low (due_of sequence)) (forward insts sequence).forward in
+        phi_at sequence p (inr (g.0, by_one g.1 g.2, refl)) place least less phi
 
     arms_phi : {scope : Scope} {merge low high join : ℕ} {all due left : List ℕ} (after : ℕ) (a : Arms insts scope merge all due low left high) → AreArmsPlaced insts d after a
-        → ((part : List ℕ) (between : ℕ) → Arms insts scope merge all due low part between → is_label_at insts between ≡ true → low ≤ between → between < join → (d.before + 1 < between) × Entry insts d between)
+        → ((part : List ℕ) (between : ℕ) → Arms insts scope merge all due low part between → is_label_at insts between ≡ true → low ≤ between → between < join → (d.before + 1 < between) × (after : ℕ) × Begins insts after between)
         → high ≤ join → (place : ℕ) → low ≤ place → place < high → (inst_at insts place).op ≡ op.PHI → PhiIn insts d place
     arms_phi after (no_arm is none) p given most place least less phi = absurd (omega (arith, none, least, less))
     arms_phi {low = low} {high = high} {join = join} after (arm_behind own between before arms among is sequence) p given most place least less phi =
@@ -262,7 +311,9 @@ module _ (insts : List Inst) (once : LabelsOnce insts) (d : Derives insts) where
         let b = arms_forward insts arms in
         elim (cases_lt place between) [
           | inl early ↦ arms_phi {join = join} after arms p.0 given (omega (arith, g, most)) place least early phi
-          | inr late ↦ phi_at sequence p.1.placed (inr (given before between arms (due_label insts (Some own) between (due_of sequence)) b (omega (arith, g, most)))) place late less phi
+          | inr late ↦
+              let e = given before between arms (due_label insts (Some own) between (due_of sequence)) b (omega (arith, g, most)) in
+              phi_at sequence p.1.placed (inr (e.0, by_one e.1 e.2, refl)) place late less phi
         ]
 
 -- of a valid module
