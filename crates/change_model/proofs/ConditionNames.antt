@@ -1,5 +1,5 @@
--- What stands in a sequence: a branch without a merge instruction only at its end, and where no loop may stand in it, none does, and each
--- label behind its first is named by something before it.
+-- What stands in a sequence: a branch without a merge instruction only at its end, and each label behind its first is named by something
+-- before it; where no loop may stand in it, none does.
 use Rattle.std.proofs.Common.{◌≡◌, ℕ, ◌+◌, ◌-◌, ◌<◌, ◌≤◌, ◌⊎◌, inl, inr, Bool, true, false, ◌==◌, ◌||◌, List, [], ◌∷◌, drop, slice_index, refl, ap, sym, ◌∙◌, subst, arith, Option, None, Some}
 use Rattle.std.proofs.lemmas.Bool.{cases_lt, eqb-true, eq-eqb}
 use Rattle.std.proofs.lemmas.Option.{slice_get-get_or}
@@ -8,7 +8,9 @@ use Rattle.spirv_model.specs.declared.op.TheConstants as op
 use Rattle.spirv_model.specs.Operands.{word_at}
 use Rattle.body_model.specs.declared.block_end.BlockEnd.{BlockEnd}
 use Rattle.body_model.specs.declared.block_end.BlockEnd.TheVariants as way
+use Rattle.body_model.specs.declared.block_end.LoopHead.{LoopHead}
 use Rattle.body_model.specs.declared.block_end.SelectionHead.{SelectionHead}
+use Rattle.body_model.specs.declared.block_end.SequenceEnd.{SequenceEnd}
 use Rattle.body_model.specs.declared.block_end.SwitchHead.{SwitchHead}
 use Rattle.body_model.specs.Blocks.{block_end}
 use Rattle.body_model.specs.Due.{IsDue}
@@ -24,7 +26,7 @@ use Rattle.unit_model.specs.ConstantScalars.{is_behind}
 use Rattle.change_model.specs.PlanRules.{merge_labels}
 use Rattle.change_model.proofs.BlockPieces.{Piece, of_label, of_front, of_stop, of_branch, of_test, of_choice, of_switch, of_selection, of_loop, piece}
 use Rattle.change_model.proofs.LeftBlocks.{is_inner}
-use Rattle.change_model.proofs.LeftBlockNames.{StandsIn, stands_due, stands_wider, inst_there, second_there, last_there}
+use Rattle.change_model.proofs.LeftBlockNames.{StandsIn, stands_due, stands_wider, inst_there, second_there, last_there, last_within}
 use Rattle.change_model.proofs.LeftEnds.{Way, exits, tests_true, tests_false, returns, kills, goes, selects as selects_way, picks as picks_way, loops as loops_way, way as way_of}
 use Rattle.change_model.proofs.LeftFates.{inners}
 use Rattle.change_model.proofs.LeftFronts.{next_is, OldBlock, old_block}
@@ -33,7 +35,7 @@ use Rattle.change_model.proofs.LeftScopes.{is_label_at, label_at, names}
 use Rattle.change_model.proofs.LeftSwitchArms.{among_without}
 use Rattle.change_model.proofs.LeftTargets.{due_stands}
 use Rattle.change_model.proofs.LeftTests.{choice_targets}
-use Rattle.change_model.proofs.LeftWays.{IsPast, next_way, loop_way}
+use Rattle.change_model.proofs.LeftWays.{IsPast, next_way, LoopWay, loop_way}
 
 clash : {Q : Type 0} (b : Bool) → b ≡ true → b ≡ false → Q
 clash true is isnt = cc
@@ -73,6 +75,9 @@ switch_targets inst is = ap (λ (o : ℕ). targets_by o inst.words) is
 
 selection_labels : (inst : Inst) → inst.op ≡ op.SELECTION_MERGE → merge_labels inst ≡ word_at 0 inst ∷ []
 selection_labels inst is = rw is refl
+
+loop_labels : (inst : Inst) → inst.op ≡ op.LOOP_MERGE → merge_labels inst ≡ word_at 0 inst ∷ word_at 1 inst ∷ []
+loop_labels inst is = rw is refl
 
 among_head : (label : ℕ) (rest : List ℕ) → is_among label (label ∷ rest) ≡ true
 among_head label rest = by_first (label == label) (is_among label rest) (eq-eqb label label refl)
@@ -202,6 +207,112 @@ module _ (insts : List Inst) (scope : Scope) (wanted : Option ℕ) (from : ℕ) 
               ∙ (among_without head.merge label (targets_of (switch_words insts head)) among).0);
         }
 
+  module _ (head : LoopHead) (is : block_end insts scope from ≡ way.Loops head) where
+    old_loop : OldBlock insts scope from (way.Loops head)
+    old_loop = old_block insts scope wanted from (way.Loops head) here is tt
+
+    header_way : LoopWay scope (slice_index old_loop.label.words 0) old_loop.inst old_loop.behind old_loop.place head
+    header_way =
+        let o = old_loop in
+        loop_way scope (slice_index o.label.words 0) o.inst o.behind o.place (way.Loops head) (way_of scope (slice_index o.label.words 0) o.inst o.behind o.place (way.Loops head) o.ends tt)
+
+    -- by its OpLoopMerge
+    merge_named : (label : ℕ) → is_among label (word_at 0 old_loop.inst ∷ word_at 1 old_loop.inst ∷ []) ≡ true → NamedIn insts from head.after label
+    merge_named label among =
+        let o = old_loop in
+        let e = o.place_is in
+        let a = header_way.after in
+        record {
+          at = o.place;
+          low = omega (arith, e);
+          high = omega (arith, a);
+          named = merge_names insts o.place label (ap (is_among label) (ap merge_labels (inst_there insts scope from (way.Loops head) o) ∙ loop_labels o.inst header_way.is) ∙ among);
+        }
+
+    loop_merge_named : (label : ℕ) → label ≡ head.merge → NamedIn insts from head.after label
+    loop_merge_named label same = merge_named label (ap (λ (l : ℕ). is_among l (word_at 0 old_loop.inst ∷ word_at 1 old_loop.inst ∷ [])) (same ∙ sym header_way.merge) ∙ among_head (word_at 0 old_loop.inst) (word_at 1 old_loop.inst ∷ []))
+
+    loop_next_named : (label : ℕ) → label ≡ head.next → NamedIn insts from head.after label
+    loop_next_named label same = merge_named label (ap (λ (l : ℕ). is_among l (word_at 0 old_loop.inst ∷ word_at 1 old_loop.inst ∷ [])) (same ∙ sym header_way.next)
+        ∙ by_second (word_at 0 old_loop.inst == word_at 1 old_loop.inst) (is_among (word_at 1 old_loop.inst) (word_at 1 old_loop.inst ∷ [])) (among_head (word_at 1 old_loop.inst) []))
+
+    loop_test_named : (label : ℕ) → label ≡ head.test → NamedIn insts from head.after label
+    loop_test_named label same =
+        let o = old_loop in
+        let w = header_way in
+        let e = o.place_is in
+        let a = w.after in
+        record {
+          at = o.place + 1;
+          low = omega (arith, e);
+          high = omega (arith, a);
+          named = target_names insts (o.place + 1) label (ap (is_among label) (ap targets (second_there insts scope from (way.Loops head) o w.last w.rest w.at) ∙ branch_targets w.last w.branch)
+              ∙ ap (λ (l : ℕ). is_among l (word_at 0 w.last ∷ [])) (same ∙ sym w.test) ∙ among_head (word_at 0 w.last) []);
+        }
+
+-- ---- how the end of a sequence names the label behind it
+
+abbrev LeavesTo : BlockEnd → ℕ → Type 0
+LeavesTo (way.Ends last) label = last.next ≡ Some label
+LeavesTo other label = ⊥
+
+same_label : (a b : ℕ) → ◌≡◌ {A = Option ℕ} (Some a) (Some b) → a ≡ b
+same_label a b same = cc
+
+no_label : {Q : Type 0} (label : ℕ) → ◌≡◌ {A = Option ℕ} None (Some label) → Q
+no_label label same = cc
+
+choice_among : (inst : Inst) (label : ℕ) → inst.op ≡ op.BRANCH_CONDITIONAL → ((word_at 1 inst == label) || ((word_at 2 inst == label) || false)) ≡ true → is_among label (targets inst) ≡ true
+choice_among inst label is one = ap (is_among label) (choice_targets inst is) ∙ one
+
+end_leads : (scope : Scope) (header : ℕ) (inst : Inst) (behind : List Inst) (place : ℕ) (e : BlockEnd) → Way scope header inst behind place e → (label : ℕ) → LeavesTo e label → is_among label (targets inst) ≡ true
+end_leads scope header inst behind place e (tests_true is test other) label leaves =
+    choice_among inst label is (by_first (word_at 1 inst == label) ((word_at 2 inst == label) || false) (eq-eqb (word_at 1 inst) label (same_label (word_at 1 inst) label leaves)))
+end_leads scope header inst behind place e (tests_false is test other) label leaves =
+    choice_among inst label is (by_second (word_at 1 inst == label) ((word_at 2 inst == label) || false) (by_first (word_at 2 inst == label) false (eq-eqb (word_at 2 inst) label (same_label (word_at 2 inst) label leaves))))
+end_leads scope header inst behind place e (exits is free to) label leaves = no_label label leaves
+end_leads scope header inst behind place e (returns is may) label leaves = no_label label leaves
+end_leads scope header inst behind place e (kills is may) label leaves = no_label label leaves
+end_leads scope header inst behind place e (goes is free to begins) label leaves = absurd leaves
+end_leads scope header inst behind place e (selects_way is at branch few other) label leaves = absurd leaves
+end_leads scope header inst behind place e (picks_way is at switch few other) label leaves = absurd leaves
+end_leads scope header inst behind place e (loops_way is may at branch few free) label leaves = absurd leaves
+
+module _ (insts : List Inst) where
+  end_named : (scope : Scope) (wanted : Option ℕ) (from to : ℕ) (last : SequenceEnd) → IsDue insts wanted from → block_end insts scope from ≡ way.Ends last → last.after ≡ to → (label : ℕ) → last.next ≡ Some label → NamedIn insts from to label
+  end_named scope wanted from to last here is past label leaves =
+      let o = old_block insts scope wanted from (way.Ends last) here is tt in
+      let e = o.place_is in
+      let w = last_within insts scope from (way.Ends last) o tt in
+      record {
+        at = o.place;
+        low = omega (arith, e);
+        high = omega (arith, w, past);
+        named = target_names insts o.place label (ap (λ (i : Inst). is_among label (targets i)) (inst_there insts scope from (way.Ends last) o)
+            ∙ end_leads scope (slice_index o.label.words 0) o.inst o.behind o.place (way.Ends last) (way_of scope (slice_index o.label.words 0) o.inst o.behind o.place (way.Ends last) o.ends tt) label leaves);
+      }
+
+  leaves_named : {scope : Scope} {wanted next : Option ℕ} {from to : ℕ} → Sequence insts scope wanted from to next → (label : ℕ) → next ≡ Some label → NamedIn insts from to label
+  leaves_named {scope} {wanted} {next} {from} {to} (ends last here is label_is place_is) label leaves = end_named scope wanted from to last here is place_is label (label_is ∙ leaves)
+  leaves_named {scope} {wanted} {next} {from} {to} (goes_on after here is rest) label leaves =
+      let f = (sound_at insts scope from (way.GoesOn after) is).forward in
+      named_wider insts after to from to label (omega (arith, f)) (omega arith) (leaves_named rest label leaves)
+  leaves_named {scope} {wanted} {next} {from} {to} (selects head second join here is on_true on_false rest) label leaves =
+      let f = (sound_at insts scope from (way.Selects head) is).0.forward in
+      let a = arm_forward insts on_true in
+      let b = arm_forward insts on_false in
+      named_wider insts join to from to label (omega (arith, f, a, b)) (omega arith) (leaves_named rest label leaves)
+  leaves_named {scope} {wanted} {next} {from} {to} (picks head join here is arms rest) label leaves =
+      let f = (sound_at insts scope from (way.Picks head) is).0.forward in
+      let a = arms_forward insts arms in
+      named_wider insts join to from to label (omega (arith, f, a)) (omega arith) (leaves_named rest label leaves)
+  leaves_named {scope} {wanted} {next} {from} {to} (loops head inner first second third here is tested within step rest) label leaves =
+      let f = (sound_at insts scope from (way.Loops head) is).0.forward in
+      let t = (forward insts tested).forward in
+      let q = (forward insts within).forward in
+      let r = (forward insts step).forward in
+      named_wider insts third to from to label (omega (arith, f, t, q, r)) (omega arith) (leaves_named rest label leaves)
+
 -- ---- a place of a sequence
 
 -- a label to which a condition sequence leads
@@ -212,7 +323,7 @@ pub record Inside (insts : List Inst) (scope : Scope) (next : Option ℕ) (from 
   pub test : (inst_at insts place).op ≡ op.BRANCH_CONDITIONAL → is_behind op.SELECTION_MERGE insts place ≡ false → (label : ℕ) → is_among label (targets (inst_at insts place)) ≡ true
       → ((place + 1 ≡ to) × Tested scope next label) ⊎ StandsIn insts (place + 1) to label
   pub no_loop : scope.may_loop ≡ false → (inst_at insts place).op ≡ op.LOOP_MERGE → ⊥
-  pub entered : scope.may_loop ≡ false → is_label_at insts place ≡ true → (place ≡ from) ⊎ NamedIn insts from place (label_at insts place)
+  pub entered : is_label_at insts place ≡ true → (place ≡ from) ⊎ NamedIn insts from place (label_at insts place)
   pub switch : (inst_at insts place).op ≡ op.SWITCH → is_behind op.SELECTION_MERGE insts place ≡ true
 
 -- ---- its first block
@@ -301,7 +412,7 @@ module _ (insts : List Inst) (scope : Scope) (next : Option ℕ) (from to : ℕ)
       record {
         test = λ is unselected label among. inl (piece_test place end to_end p is unselected label among);
         no_loop = λ may is. clash scope.may_loop (piece_loop place end p is) may;
-        entered = λ may is. inl (piece_label place end p (eqb-true (inst_at insts place).op op.LABEL is));
+        entered = λ is. inl (piece_label place end p (eqb-true (inst_at insts place).op op.LABEL is));
         switch = λ is. piece_switch place end p is;
       }
 
@@ -309,7 +420,7 @@ module _ (insts : List Inst) (scope : Scope) (next : Option ℕ) (from to : ℕ)
 
 module _ (insts : List Inst) (scope : Scope) (next : Option ℕ) (from to : ℕ) where
   in_part : (part : Scope) (past : Option ℕ) (low high : ℕ) → from ≤ low → high ≤ to → (scope.may_loop ≡ false → part.may_loop ≡ false)
-      → ((label : ℕ) → Tested part past label → ((high ≡ to) × Tested scope next label) ⊎ StandsIn insts high to label) → (scope.may_loop ≡ false → NamedIn insts from low (label_at insts low))
+      → ((label : ℕ) → Tested part past label → ((high ≡ to) × Tested scope next label) ⊎ StandsIn insts high to label) → NamedIn insts from low (label_at insts low)
       → (place : ℕ) → Inside insts part past low high place → Inside insts scope next from to place
   in_part part past low high down up free leads named place i = record {
     test = λ is unselected label among. elim (i.test is unselected label among) [
@@ -320,8 +431,8 @@ module _ (insts : List Inst) (scope : Scope) (next : Option ℕ) (from to : ℕ)
       ]
     ];
     no_loop = λ may is. i.no_loop (free may) is;
-    entered = λ may is. elim (i.entered (free may) is) [
-      | inl first ↦ inr (subst (λ (n : ℕ). NamedIn insts from n (label_at insts n)) (sym first) (named may))
+    entered = λ is. elim (i.entered is) [
+      | inl first ↦ inr (subst (λ (n : ℕ). NamedIn insts from n (label_at insts n)) (sym first) named)
       | inr n ↦ inr (named_wider insts low place from place (label_at insts place) down (omega arith) n)
     ];
     switch = i.switch;
@@ -351,7 +462,7 @@ module _ (insts : List Inst) where
       | inl early ↦ in_block insts scope next from to (way.GoesOn after) (old_block insts scope wanted from (way.GoesOn after) here is tt) tt tt place low early
       | inr late ↦
           let f = (sound_at insts scope from (way.GoesOn after) is).forward in
-          in_part insts scope next from to (behind_block scope) next after to (omega (arith, f)) (omega arith) (λ may. may) (λ label leads. inl (refl, leads)) (λ may. next_named insts scope wanted from here after is (due_of rest)) place
+          in_part insts scope next from to (behind_block scope) next after to (omega (arith, f)) (omega arith) (λ may. may) (λ label leads. inl (refl, leads)) (next_named insts scope wanted from here after is (due_of rest)) place
           (inside_at rest place late high)
     ]
     inside_at {scope} {wanted} {next} {from} {to} (selects head second join here is on_true on_false rest) place low high =
@@ -366,7 +477,7 @@ module _ (insts : List Inst) where
             | inr past ↦ elim (cases_lt place join) [
               | inl other ↦ arm_inside next from to on_false (omega (arith, f, a)) (omega (arith, g)) (λ label same. named_wider insts from head.after from second label (omega arith) a (false_named insts scope wanted from here head is label same)) place past other
               | inr beyond ↦ in_part insts scope next from to (behind_selection scope) next join to (omega (arith, f, a, b)) (omega arith) (λ may. may) (λ label leads. inl (refl, leads))
-                  (λ may. named_wider insts from head.after from join (label_at insts join) (omega arith) (omega (arith, a, b)) (select_merge_named insts scope wanted from here head is (label_at insts join) (due_stands insts head.merge join (due_of rest)).own)) place
+                  (named_wider insts from head.after from join (label_at insts join) (omega arith) (omega (arith, a, b)) (select_merge_named insts scope wanted from here head is (label_at insts join) (due_stands insts head.merge join (due_of rest)).own)) place
                   (inside_at rest place beyond high)
             ]
           ]
@@ -380,7 +491,7 @@ module _ (insts : List Inst) where
           | inr late ↦ elim (cases_lt place join) [
             | inl within ↦ arms_inside next from to arms (omega (arith, f)) (omega (arith, g)) (λ label among. arm_named insts scope wanted from here head is label among) place late within
             | inr beyond ↦ in_part insts scope next from to (behind_selection scope) next join to (omega (arith, f, a)) (omega arith) (λ may. may) (λ label leads. inl (refl, leads))
-                (λ may. named_wider insts from head.after from join (label_at insts join) (omega arith) a (pick_merge_named insts scope wanted from here head is (label_at insts join) (due_stands insts head.merge join (due_of rest)).own)) place
+                (named_wider insts from head.after from join (label_at insts join) (omega arith) a (pick_merge_named insts scope wanted from here head is (label_at insts join) (due_stands insts head.merge join (due_of rest)).own)) place
                 (inside_at rest place beyond high)
           ]
         ]
@@ -391,21 +502,21 @@ module _ (insts : List Inst) where
         let r = (forward insts step).forward in
         let g = (forward insts rest).forward in
         let o = old_block insts scope wanted from (way.Loops head) here is tt in
-        let never : (n : ℕ) → scope.may_loop ≡ false → NamedIn insts from n (label_at insts n) = λ n may. clash scope.may_loop (loop_way scope (slice_index o.label.words 0) o.inst o.behind o.place (way.Loops head) (way_of scope (slice_index o.label.words 0) o.inst o.behind o.place (way.Loops head) o.ends tt)).may may in
+        let merged = λ (place : ℕ) (past : head.after ≤ place) (label : ℕ) (same : label ≡ head.merge). named_wider insts from head.after from place label (omega arith) past (loop_merge_named insts scope wanted from here head is label same) in
         elim (cases_lt place head.after) [
           | inl early ↦ in_block insts scope next from to (way.Loops head) o tt tt place low early
           | inr late ↦ elim (cases_lt place first) [
             | inl one ↦ in_part insts scope next from to (condition scope head.merge) (Some inner) head.after first (omega (arith, f)) (omega (arith, q, r, g)) (λ may. refl) (λ label leads. inr (elim leads [
               | inl by_test ↦ stands_due insts first to label head.merge third (omega (arith, q, r)) g (sym (some_label head.merge label by_test)) (due_of rest)
               | inr by_next ↦ stands_due insts first to label inner first (omega arith) (omega (arith, q, r, g)) (sym (some_label inner label by_next)) (due_of within)
-            ])) (never head.after) place (inside_at tested place late one)
+            ])) (named_wider insts from head.after from head.after (label_at insts head.after) (omega arith) (omega arith) (loop_test_named insts scope wanted from here head is (label_at insts head.after) (due_stands insts head.test head.after (due_of tested)).own)) place (inside_at tested place late one)
             | inr past ↦ elim (cases_lt place second) [
-              | inl two ↦ in_part insts scope next from to (body scope head.merge head.next) None first second (omega (arith, f, t)) (omega (arith, r, g)) (λ may. may) (λ label leads. none_tested (body scope head.merge head.next) label refl leads) (never first) place
+              | inl two ↦ in_part insts scope next from to (body scope head.merge head.next) None first second (omega (arith, f, t)) (omega (arith, r, g)) (λ may. may) (λ label leads. none_tested (body scope head.merge head.next) label refl leads) (named_wider insts head.after first from first (label_at insts first) (omega (arith, f)) (omega arith) (leaves_named insts tested (label_at insts first) (ap (λ (n : ℕ). Some n) (sym (due_stands insts inner first (due_of within)).own)))) place
                   (inside_at within place past two)
               | inr further ↦ elim (cases_lt place third) [
-                | inl three ↦ in_part insts scope next from to (continuing scope head.header) None second third (omega (arith, f, t, q)) (omega (arith, g)) (λ may. may) (λ label leads. none_tested (continuing scope head.header) label refl leads) (never second) place
+                | inl three ↦ in_part insts scope next from to (continuing scope head.header) None second third (omega (arith, f, t, q)) (omega (arith, g)) (λ may. may) (λ label leads. none_tested (continuing scope head.header) label refl leads) (named_wider insts from head.after from second (label_at insts second) (omega arith) (omega (arith, t, q)) (loop_next_named insts scope wanted from here head is (label_at insts second) (due_stands insts head.next second (due_of step)).own)) place
                     (inside_at step place further three)
-                | inr beyond ↦ in_part insts scope next from to (behind_loop scope) next third to (omega (arith, f, t, q, r)) (omega arith) (λ may. may) (λ label leads. inl (refl, leads)) (never third) place (inside_at rest place beyond high)
+                | inr beyond ↦ in_part insts scope next from to (behind_loop scope) next third to (omega (arith, f, t, q, r)) (omega arith) (λ may. may) (λ label leads. inl (refl, leads)) (merged third (omega (arith, t, q, r)) (label_at insts third) (due_stands insts head.merge third (due_of rest)).own) place (inside_at rest place beyond high)
               ]
             ]
           ]
@@ -416,7 +527,7 @@ module _ (insts : List Inst) where
     arm_inside next from to (straight is none) down up named place least less = absurd (omega (arith, none, least, less))
     arm_inside {scope} {merge} {target} {low} {high} next from to (through isnt sequence) down up named place least less =
         in_part insts scope next from to (arm scope merge) None low high down up (λ may. may) (λ label leads. none_tested (arm scope merge) label refl leads)
-        (λ may. named (label_at insts low) (due_stands insts target low (due_of sequence)).own) place (inside_at sequence place least less)
+        (named (label_at insts low) (due_stands insts target low (due_of sequence)).own) place (inside_at sequence place least less)
 
     arms_inside : {scope : Scope} {merge : ℕ} {all due left : List ℕ} {low high : ℕ} (next : Option ℕ) (from to : ℕ) → Arms insts scope merge all due low left high → from ≤ low → high ≤ to → ((label : ℕ) → is_among label due ≡ true → NamedIn insts from low label)
         → (place : ℕ) → low ≤ place → place < high → Inside insts scope next from to place
@@ -427,6 +538,6 @@ module _ (insts : List Inst) where
         elim (cases_lt place between) [
           | inl early ↦ arms_inside next from to arms down (omega (arith, g, up)) named place least early
           | inr late ↦ in_part insts scope next from to (switch_arm scope merge (without own all)) None between high (omega (arith, down, b)) up (λ may. may) (λ label leads. none_tested (switch_arm scope merge (without own all)) label refl leads)
-              (λ may. named_wider insts from low from between (label_at insts between) (omega arith) b
+              (named_wider insts from low from between (label_at insts between) (omega arith) b
               (named (label_at insts between) (ap (λ (l : ℕ). is_among l due) (due_stands insts own between (due_of sequence)).own ∙ due_before arms own among))) place (inside_at sequence place late less)
         ]

@@ -112,7 +112,7 @@ module _ (insts : List Inst) (once : LabelsOnce insts) (d : Derives insts) (plac
 
   -- a label of the condition sequence is its first or named in it before
   pub condition_entered : (at : ℕ) → l.head.after ≤ at → at < l.first → is_label_at insts at ≡ true → (at ≡ l.head.after) ⊎ NamedIn insts l.head.after at (label_at insts at)
-  condition_entered at low high is = (inside_at insts l.tested at low high).entered refl is
+  condition_entered at low high is = (inside_at insts l.tested at low high).entered is
 
   -- the one branch that leads to the merge block without a merge instruction
   pub only_test : (at : ℕ) → is_test_of insts l.head.merge at ≡ true → at + 1 ≡ l.first
