@@ -36,7 +36,7 @@ use Rattle.change_model.proofs.TypesNamed.{means}
 
 -- ---- instructions that use nothing
 
-phi_uses_none : (words : List ℕ) → used_ids (instruction op.PHI words) ≡ []
+pub phi_uses_none : (words : List ℕ) → used_ids (instruction op.PHI words) ≡ []
 unfolding used_ids class_of entry_of
 phi_uses_none words = refl
 
@@ -44,7 +44,7 @@ branch_unused : (id label : ℕ) → list_any (is_user id) (branch_to label ∷ 
 unfolding used_ids class_of entry_of
 branch_unused id label = refl
 
-nothing_unused : (plan : Plan) (insts : List Inst) (place id : ℕ) → is_user id (kept_at plan insts place no_instruction) ≡ false
+pub nothing_unused : (plan : Plan) (insts : List Inst) (place id : ℕ) → is_user id (kept_at plan insts place no_instruction) ≡ false
 unfolding used_ids class_of entry_of kinds
 nothing_unused plan insts place id = refl
 

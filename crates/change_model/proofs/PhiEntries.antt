@@ -130,8 +130,8 @@ module _ (insts : List Inst) (scope : Scope) (from : ℕ) (end : BlockEnd) (o : 
       place = o.place;
       low = let b = before_last in let l = behind_label in omega (arith, b, l);
       is = ap (λ (i : Inst). i.op) (inst_there insts scope from end o)
-      ∙ eqb-true o.inst.op op.LOOP_MERGE (sym (thinned_leads o.front o.front o.inst o.behind (same_thinned o.front) o.inner o.isnt)
-      ∙ sym (ap (λ (phis : Phis). may_have_phis phis (leads_to_loop (o.front ++ o.inst ∷ o.behind))) headers) ∙ somewhere);
+          ∙ eqb-true o.inst.op op.LOOP_MERGE (sym (thinned_leads o.front o.front o.inst o.behind (same_thinned o.front) o.inner o.isnt)
+          ∙ sym (ap (λ (phis : Phis). may_have_phis phis (leads_to_loop (o.front ++ o.inst ∷ o.behind))) headers) ∙ somewhere);
       plain = λ q less before. front_inner insts scope from end o q less before;
     }
 
