@@ -31,7 +31,7 @@ use Rattle.change_model.proofs.ConstantOperands.{first_values}
 use Rattle.change_model.proofs.PlanRunsBegins.{rooted_begins}
 use Rattle.change_model.proofs.PlanRunsMemory.{zeros_begin, memory_begins}
 use Rattle.change_model.proofs.PlanRunsNames.{own_name}
-use Rattle.change_model.proofs.PlanRunsStarts.{first_place, values_begin, typed_level}
+use Rattle.change_model.proofs.PlanRunsStarts.{first_place, AreGivenAlike, values_begin, typed_level}
 use Rattle.change_model.proofs.PlanRunsLevel.{fix_rightly, scalar_level}
 use Rattle.change_model.proofs.PlanRunsSetting.{planned, leaves_program, all_kept, kept_whole}
 use Rattle.change_model.proofs.PlanRunsStep.{one_step}
@@ -70,12 +70,12 @@ setting words v zeros plan is bound new entries inputs buffers =
 stays_put : (fate : Fate) → fate ≡ Stays → fate ≡ Resolves → ⊥
 stays_put fate is also = cc
 
-starts_beside : (words : Words) (v : IsValidList words) (zeros : List ℕ) (plan : Plan) → IsPlan words v zeros plan → (bound : ℕ) (new : IsValidList (changed_words plan words bound)) → is_specialized words.insts ≡ true
-    → (settled entries : SpecValues) (inputs : Inputs) (buffers : Buffers) → AreZerosAt zeros inputs
+starts_beside : (words : Words) (v : IsValidList words) (zeros : List ℕ) (plan : Plan) → IsPlan words v zeros plan → (bound : ℕ) (new : IsValidList (changed_words plan words bound))
+    → (settled entries : SpecValues) → AreGivenAlike words.insts settled entries → (inputs : Inputs) (buffers : Buffers) → AreZerosAt zeros inputs
     → AreBeside words v zeros plan (new_values words plan bound new settled inputs buffers) (start_at (program_of (changed plan words.insts)) (given settled inputs buffers) (new.derivation.before + 1))
     (start_at (program_of words.insts) (given entries inputs buffers) (v.derivation.before + 1))
 unfolding start_at
-starts_beside words v zeros plan is bound new specialized settled entries inputs buffers zero =
+starts_beside words v zeros plan is bound new settled entries alike inputs buffers zero =
     let insts = words.insts in let d = v.derivation in
     let list = changed plan insts in
     let g = planned words v zeros plan is in
@@ -96,7 +96,7 @@ starts_beside words v zeros plan is bound new specialized settled entries inputs
             let named = own_name words v zeros plan is s.at id s.defined (λ resolves. stays_put (plan.fate s.at) (level s.at s.visible) resolves) in
             ap (λ (values : Values). values (plan.name id)) (values_first list (given settled inputs buffers) (new.derivation.before + 1))
             ∙ ap (first_values (changed_words plan words bound) new settled) named
-            ∙ values_begin g bound new leaves.layout specialized settled entries id s.at s.defined (typed_level words v id s.at s.type s.defined (low s.at s.visible) s.of)
+            ∙ values_begin g bound new leaves.layout settled entries alike id s.at s.defined (typed_level words v id s.at s.type s.defined (low s.at s.visible) s.of)
             ∙ sym (ap (λ (values : Values). values id) (values_first insts (given entries inputs buffers) (d.before + 1)));
         values_at_entry = λ id none. absurd none;
         memory = λ variable at held. memory_begins g inputs buffers variable at;
@@ -113,20 +113,20 @@ starts_beside words v zeros plan is bound new specialized settled entries inputs
     }
 
 -- Whatever is given, the new list leaves what the old one leaves, but for outputs that nobody reads.
-pub plan_keeps_but : (words : Words) (v : IsValidList words) (zeros : List ℕ) (plan : Plan) → IsPlan words v zeros plan → (bound : ℕ) → IsValidList (changed_words plan words bound) → is_specialized words.insts ≡ true
-    → (settled entries : SpecValues) (inputs : Inputs) (buffers : Buffers) → AreZerosAt zeros inputs
+pub plan_keeps_but : (words : Words) (v : IsValidList words) (zeros : List ℕ) (plan : Plan) → IsPlan words v zeros plan → (bound : ℕ) → IsValidList (changed_words plan words bound)
+    → (settled entries : SpecValues) → AreGivenAlike words.insts settled entries → (inputs : Inputs) (buffers : Buffers) → AreZerosAt zeros inputs
     → KeepsOutcomeBut (is_unread_output plan words.insts BUILT_IN builtin.POSITION) (is_unread_output plan words.insts LOCATION) (stage (changed plan words.insts) (given settled inputs buffers)) (stage words.insts (given entries inputs buffers))
-plan_keeps_but words v zeros plan is bound new specialized settled entries inputs buffers zero =
+plan_keeps_but words v zeros plan is bound new settled entries alike inputs buffers zero =
     let fixed = new_values words plan bound new settled inputs buffers in
     let p = program_of (changed plan words.insts) in
     stage_followed (LeftBy plan words.insts) (changed plan words.insts) words.insts (AreBeside words v zeros plan fixed) (one_step words v zeros plan fixed p (setting words v zeros plan is bound new settled inputs buffers))
     (given settled inputs buffers) (given entries inputs buffers) (new.derivation.before + 1) (v.derivation.before + 1) (first_label_is (changed plan words.insts) new.derivation) (first_label_is words.insts v.derivation)
-    (starts_beside words v zeros plan is bound new specialized settled entries inputs buffers zero)
+    (starts_beside words v zeros plan is bound new settled entries alike inputs buffers zero)
 
 -- Where nothing is unread, it leaves all of it.
 pub plan_keeps : (words : Words) (v : IsValidList words) (zeros : List ℕ) (plan : Plan) → IsPlan words v zeros plan → (bound : ℕ) → IsValidList (changed_words plan words bound) → is_specialized words.insts ≡ true → AllRead plan
     → (settled entries : SpecValues) (inputs : Inputs) (buffers : Buffers) → AreZerosAt zeros inputs
     → KeepsOutcome (stage (changed plan words.insts) (given settled inputs buffers)) (stage words.insts (given entries inputs buffers))
 plan_keeps words v zeros plan is bound new specialized read settled entries inputs buffers zero outcome ends =
-    let k = plan_keeps_but words v zeros plan is bound new specialized settled entries inputs buffers zero outcome ends in
+    let k = plan_keeps_but words v zeros plan is bound new settled entries (inl specialized) inputs buffers zero outcome ends in
     (k.0, k.1, kept_whole plan words.insts read k.0 outcome k.2)

@@ -1,5 +1,6 @@
 -- Where both functions begin: the places, and the values of the ids of the module's level.
-use Rattle.std.proofs.Common.{◌≡◌, ℕ, zero, suc, ◌+◌, ◌<◌, ◌≤◌, ◌==◌, ◌&&◌, ◌||◌, not, if◌then◌else◌, inl, inr, Bool, true, false, List, [], ◌∷◌, length, take, drop, slice_index, refl, ap, sym, ◌∙◌, subst, arith, Option, None, Some}
+use Rattle.std.proofs.Common.{◌≡◌, ℕ, zero, suc, ◌+◌, ◌<◌, ◌≤◌, ◌⊎◌, ◌==◌, ◌&&◌, ◌||◌, not, if◌then◌else◌, inl, inr, Bool, true, false, List, [], ◌∷◌, length, take, drop, slice_index, refl, ap, sym, ◌∙◌, subst, arith, Option, None, Some}
+use Rattle.std.proofs.Math.Path.{fun_ext}
 use Rattle.std.specs.List.{fold, list_all}
 use Rattle.std.specs.Option.{option_map, option_and_then}
 use Rattle.std.proofs.lemmas.Bool.{cases_lt}
@@ -17,6 +18,8 @@ use Rattle.valid_model.specs.Meanings.{meaning, known_before}
 use Rattle.check_model.specs.Typing.{type_id}
 use Rattle.check_model.specs.Validity.{IsValidList}
 use Rattle.state_model.specs.declared.parts.SpecValues.{SpecValues}
+use Rattle.spirv_model.specs.declared.decoration.TheConstants.{SPEC_ID}
+use Rattle.change_model.proofs.ChangedPrograms.{decorations_changed}
 use Rattle.stage_model.specs.Value.{Layout}
 use Rattle.stage_model.specs.Program.{Program, program_of}
 use Rattle.stage_model.specs.Start.{Values, no_values, constant_of, with_definition, defined_by}
@@ -200,12 +203,36 @@ typed_level words v id at type defined low of = elim (cases_lt at v.derivation.b
         none_some (type_id (meaning insts id))
         (ap type_id (meaning_at insts at id defined) ∙ ap (λ f. type_id f.meaning) (function_known (known_before insts at) (inst_at insts at) alone.0 alone.1 ∙ op_function_facts (inst_at insts at) is_op)) of
 
+-- what programs with the same layouts and decorations give constants
+constant_alike : (p q : Program) → p.layout ≡ q.layout → p.decoration ≡ q.decoration → (entries : SpecValues) (values : Values) (opcode : ℕ) (words : List ℕ) → constant_of p entries values opcode words ≡ constant_of q entries values opcode words
+unfolding constant_of
+constant_alike p q layout decoration entries values opcode [] = refl
+constant_alike p q layout decoration entries values opcode (type ∷ []) = refl
+constant_alike p q layout decoration entries values opcode (type ∷ id ∷ words) =
+    let same : p.layout type ≡ q.layout type = ap (λ (l : ℕ → Option Layout). l type) layout in
+    let number : p.decoration id SPEC_ID ≡ q.decoration id SPEC_ID = ap (λ (d : ℕ → ℕ → Option ℕ). d id SPEC_ID) decoration in
+    rw same (rw number refl)
+
+definition_alike : (p q : Program) → p.layout ≡ q.layout → p.decoration ≡ q.decoration → (entries : SpecValues) → with_definition p entries ≡ with_definition q entries
+definition_alike p q layout decoration entries = fun_ext (λ values. fun_ext (λ inst. rw (constant_alike p q layout decoration entries values inst.op inst.words) refl))
+
+-- nothing is specialized, or both sides are given the same entries
+abbrev pub AreGivenAlike : List Inst → (settled entries : SpecValues) → Type 0
+AreGivenAlike insts settled entries = (is_specialized insts ≡ true) ⊎ (settled ≡ entries)
+
+level_alike : (g : Planned) (settled entries : SpecValues) (n : ℕ) → (program_of (changed g.plan g.words.insts)).layout ≡ (program_of g.words.insts).layout → AreGivenAlike g.words.insts settled entries
+    → fold (with_definition (program_of (changed g.plan g.words.insts)) settled) no_values (take n g.words.insts) ≡ fold (with_definition (program_of g.words.insts) entries) no_values (take n g.words.insts)
+level_alike g settled entries n layout (inl special) = fold_same (program_of (changed g.plan g.words.insts)) (program_of g.words.insts) layout settled entries g.words.insts n no_values special
+level_alike g settled entries n layout (inr same) =
+    ap (λ (f : Values → Inst → Values). fold f no_values (take n g.words.insts))
+    (definition_alike (program_of (changed g.plan g.words.insts)) (program_of g.words.insts) layout (decorations_changed g) settled ∙ ap (with_definition (program_of g.words.insts)) same)
+
 -- ids of the old module's level have the same values on both sides
-pub values_begin : (g : Planned) (bound : ℕ) (new : IsValidList (made_words g bound)) → (program_of (changed g.plan g.words.insts)).layout ≡ (program_of g.words.insts).layout → is_specialized g.words.insts ≡ true
-    → (settled entries : SpecValues) (id at : ℕ) → definition g.words.insts id ≡ Some at → at < g.valid.derivation.before
+pub values_begin : (g : Planned) (bound : ℕ) (new : IsValidList (made_words g bound)) → (program_of (changed g.plan g.words.insts)).layout ≡ (program_of g.words.insts).layout → (settled entries : SpecValues) → AreGivenAlike g.words.insts settled entries
+    → (id at : ℕ) → definition g.words.insts id ≡ Some at → at < g.valid.derivation.before
     → first_values (made_words g bound) new settled id ≡ first_values g.words g.valid entries id
 unfolding defined_by
-values_begin g bound new layout special settled entries id at defined low =
+values_begin g bound new layout settled entries alike id at defined low =
     let insts = g.words.insts in let list = changed g.plan insts in
     let p = program_of list in let q = program_of insts in
     let f = function_is insts g.valid.derivation in
@@ -217,6 +244,6 @@ values_begin g bound new layout special settled entries id at defined low =
     sym (value_from (made_words g bound) new settled id at (new.derivation.before + 1) there (omega (arith, place, behind, low')))
     ∙ value_from (made_words g bound) new settled id at first there low'
     ∙ ap (λ (l : List Inst). fold (with_definition p settled) no_values l id) (front_left g.plan insts)
-    ∙ ap (λ (values : Values). values id) (fold_same p q layout settled entries insts first no_values special)
+    ∙ ap (λ (values : Values). values id) (level_alike g settled entries first layout alike)
     ∙ sym (value_from g.words g.valid entries id at first defined low')
     ∙ value_from g.words g.valid entries id at (g.valid.derivation.before + 1) defined (omega (arith, low))
