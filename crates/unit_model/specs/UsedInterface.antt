@@ -1,5 +1,5 @@
 -- Inputs that are fed, and outputs that are read.
-use Rattle.std.specs.Prelude.{ℕ, ◌==◌, Bool, true, false, not, ◌&&◌, ◌||◌, if◌then◌else◌, List, is_some, Option, None, Some}
+use Rattle.std.specs.Prelude.{ℕ, ◌==◌, Bool, false, not, ◌&&◌, if◌then◌else◌, List, is_some, Option, None, Some}
 use Rattle.std.specs.List.{fold, list_all, list_any, slice_index_or}
 use Rattle.spirv_model.specs.declared.module.Inst.{Inst}
 use Rattle.spirv_model.specs.declared.op.TheConstants as op
@@ -12,7 +12,6 @@ use Rattle.valid_model.specs.Definitions.{inst_at}
 use Rattle.valid_model.specs.Meanings.{meaning}
 use Rattle.valid_model.specs.DecorationWords.{decoration_of}
 use Rattle.valid_model.specs.EarlierFacts.{is_variable_of}
-use Rattle.check_model.specs.Interfaces.{inputs_of, outputs_of}
 use Rattle.state_model.specs.declared.iface.Iface.{Iface}
 use Rattle.unit_model.specs.ConstantScalars.{function_places}
 
