@@ -116,13 +116,13 @@ held_where p q layout shapes variable means =
 
 -- ---- what is left
 
-record Found (test : Inst → Bool) (insts : List Inst) (inst : Inst) : Type 0 where
-  at : ℕ
-  within : at < length insts
-  there : inst_at insts at ≡ inst
-  passes : test inst ≡ true
+pub record Found (test : Inst → Bool) (insts : List Inst) (inst : Inst) : Type 0 where
+  pub at : ℕ
+  pub within : at < length insts
+  pub there : inst_at insts at ≡ inst
+  pub passes : test inst ≡ true
 
-found_in : (test : Inst → Bool) (insts : List Inst) (inst : Inst) → find test insts ≡ Some inst → Found test insts inst
+pub found_in : (test : Inst → Bool) (insts : List Inst) (inst : Inst) → find test insts ≡ Some inst → Found test insts inst
 found_in test [] inst is = cc
 found_in test (first ∷ insts) inst is = by_test (test first) refl is (λ rest. found_in test insts inst rest)
   where
@@ -239,7 +239,7 @@ all_kept g kind a b alike =
     }
 
 -- where nothing is unread, all is kept
-same_lists : (xs ys : List (List ℕ)) → length xs ≡ length ys → ((at : ℕ) → slice_index_or xs at [] ≡ slice_index_or ys at []) → xs ≡ ys
+pub same_lists : (xs ys : List (List ℕ)) → length xs ≡ length ys → ((at : ℕ) → slice_index_or xs at [] ≡ slice_index_or ys at []) → xs ≡ ys
 same_lists [] [] long same = refl
 same_lists [] (y ∷ ys) long same = absurd (omega (arith, long))
 same_lists (x ∷ xs) [] long same = absurd (omega (arith, long))
