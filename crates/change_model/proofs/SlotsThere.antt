@@ -10,8 +10,8 @@ use Rattle.spirv_model.specs.declared.module.Inst.{Inst}
 use Rattle.spirv_model.specs.declared.module.Words.{Words}
 use Rattle.spirv_model.specs.declared.op.TheConstants as op
 use Rattle.spirv_model.specs.declared.storage_class.TheConstants as storage_class
-use Rattle.spirv_model.specs.declared.decoration.TheConstants.{SPEC_ID, BUILT_IN, LOCATION, DESCRIPTOR_SET, BINDING}
-use Rattle.spirv_model.specs.Operands.{word_at, result}
+use Rattle.spirv_model.specs.declared.decoration.TheConstants.{SPEC_ID, BUILT_IN, LOCATION}
+use Rattle.spirv_model.specs.Operands.{word_at}
 use Rattle.state_model.specs.declared.iface.Slot.{Slot}
 use Rattle.valid_model.specs.declared.meaning.Meaning.{Meaning}
 use Rattle.valid_model.specs.declared.meaning.Meaning.TheVariants.{Shape as OfShape, Variable}
@@ -19,25 +19,25 @@ use Rattle.valid_model.specs.declared.meaning.Shape.TheVariants.{Int, IntVector}
 use Rattle.valid_model.specs.BuiltIns.{takes_built_in}
 use Rattle.valid_model.specs.Decorations.{is_out_of_range, repeats, bad_decorate, bad_decoration, breaks_decorations}
 use Rattle.valid_model.specs.DecorationWords.{is_listed, is_decorate, decorates, decoration_of}
-use Rattle.valid_model.specs.Definitions.{definition, inst_at, gives}
-use Rattle.valid_model.specs.EarlierFacts.{EarlierFacts, before_of, is_variable_of}
+use Rattle.valid_model.specs.Definitions.{definition, inst_at}
+use Rattle.valid_model.specs.EarlierFacts.{EarlierFacts, before_of}
 use Rattle.valid_model.specs.Knowledge.{meaning_in}
-use Rattle.valid_model.specs.Meanings.{meaning, known_by}
+use Rattle.valid_model.specs.Meanings.{meaning}
 use Rattle.valid_model.specs.ModuleFacts.{ModuleFacts, facts_of, is_word, is_spec_op}
 use Rattle.valid_model.specs.Shapes.{held_type, is_integers}
 use Rattle.valid_model.specs.Variables.{lacks_place, bad_interface, bad_location, bad_uniform, bad_push, second_position, bad_variable}
 use Rattle.valid_model.proofs.KnownIds.{unknown_without_definition, known_by_definition}
 use Rattle.check_model.specs.Interfaces.{is_variable_at, slot_in, slot_of_variable, slot_at, interface, inputs_of, outputs_of}
 use Rattle.check_model.specs.Validity.{IsValidList}
-use Rattle.stage_model.specs.Program.{Program, program_of}
-use Rattle.stage_model.specs.Stage.{is_number, is_output_with, output_with}
-use Rattle.draw_model.specs.Agreement.{IsInputAt, HasInput}
+use Rattle.stage_model.specs.Program.{program_of}
+use Rattle.stage_model.specs.Stage.{is_number, is_output_with}
+use Rattle.draw_model.specs.Agreement.{HasInput}
 use Rattle.draw_model.specs.SampleWrites.{has_output}
 use Rattle.typed_model.proofs.BlockParts.{clash}
 use Rattle.typed_model.proofs.ValidTypes.{keeps_decorations, defined_within, makes_variable}
 use Rattle.change_model.specs.Pruned.{slot_of}
 use Rattle.change_model.proofs.ChangedDecorated.{is_judged}
-use Rattle.change_model.proofs.PlanRunsSetting.{Found, found_in, variable_result}
+use Rattle.change_model.proofs.PlanRunsSetting.{found_in, variable_result}
 use Rattle.change_model.proofs.PlanRunsValues.{result_at}
 use Rattle.change_model.proofs.Settlings.{op_is}
 
