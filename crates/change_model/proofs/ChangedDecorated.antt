@@ -143,7 +143,7 @@ still_off true true old keeps is = sym (keeps refl) ∙ is
 still_off true false old keeps is = refl
 still_off false new old keeps is = refl
 
-is_judged : (facts : ModuleFacts) (before : EarlierFacts) (inst : Inst) → inst.op ≡ op.VARIABLE → breaks_decorations facts before inst ≡ bad_variable facts before (word_at 0 inst) (word_at 1 inst) (word_at 2 inst)
+pub is_judged : (facts : ModuleFacts) (before : EarlierFacts) (inst : Inst) → inst.op ≡ op.VARIABLE → breaks_decorations facts before inst ≡ bad_variable facts before (word_at 0 inst) (word_at 1 inst) (word_at 2 inst)
 unfolding breaks_decorations
 is_judged facts before inst is = ap (λ (o : ℕ). if o == op.DECORATE then bad_decorate facts before (word_at 0 inst) (word_at 1 inst) (word_at 2 inst) (length inst.words)
     else if o == op.MEMBER_DECORATE then bad_member_decorate before (word_at 0 inst) (word_at 1 inst) (word_at 2 inst) (length inst.words)

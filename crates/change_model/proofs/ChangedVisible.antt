@@ -61,7 +61,7 @@ or_right : (a b : Bool) → b ≡ true → (a || b) ≡ true
 or_right true b is = refl
 or_right false b is = is
 
-all_weaker : (p q : ℕ → Bool) (ids : List ℕ) → ((id : ℕ) → p id ≡ true → q id ≡ true) → list_all p ids ≡ true → list_all q ids ≡ true
+pub all_weaker : (p q : ℕ → Bool) (ids : List ℕ) → ((id : ℕ) → p id ≡ true → q id ≡ true) → list_all p ids ≡ true → list_all q ids ≡ true
 all_weaker p q [] each all = refl
 all_weaker p q (id ∷ ids) each all = both (q id) (list_all q ids) (each id (first_of_both (p id) (list_all p ids) all)) (all_weaker p q ids each (second_of_both (p id) (list_all p ids) all))
 

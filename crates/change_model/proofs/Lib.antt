@@ -266,3 +266,6 @@ pub mod Rounds
 pub mod FoundWhole
 pub mod UsesAmongIds
 pub mod SweptPlans
+pub mod SlotsThere
+pub mod UnfedInputs
+pub mod OptimisedFits

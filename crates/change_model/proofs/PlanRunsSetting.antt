@@ -1,5 +1,5 @@
 -- What the list that a plan makes has in common with the old one, as both machines ask it.
-use Rattle.std.proofs.Common.{◌≡◌, ℕ, zero, suc, ◌+◌, ◌<◌, ◌≤◌, ◌==◌, ◌&&◌, nat_lt, inl, inr, Bool, true, false, if◌then◌else◌, List, [], ◌∷◌, length, take, drop, map, slice_index, refl, ap, sym, ◌∙◌, subst, arith, Option, None, Some}
+use Rattle.std.proofs.Common.{◌≡◌, ℕ, zero, suc, ◌+◌, ◌<◌, ◌==◌, ◌&&◌, nat_lt, inl, inr, Bool, true, false, if◌then◌else◌, List, [], ◌∷◌, length, map, slice_index, refl, ap, sym, ◌∙◌, arith, Option, None, Some}
 use Rattle.std.proofs.Math.Path.{fun_ext}
 use Rattle.std.specs.Prelude.{slice_index_or}
 use Rattle.std.specs.List.{find, range_with_len}
@@ -18,7 +18,7 @@ use Rattle.valid_model.specs.declared.meaning.Meaning.{Meaning}
 use Rattle.valid_model.specs.declared.meaning.Meaning.TheVariants.{Absent, Shape as OfShape, Constant, Variable, Value as OfValue, Label, Other}
 use Rattle.valid_model.specs.declared.meaning.Shape.{Shape}
 use Rattle.valid_model.specs.declared.meaning.Shape.TheVariants.{Pointer}
-use Rattle.valid_model.specs.Definitions.{definition, inst_at, id_twice}
+use Rattle.valid_model.specs.Definitions.{definition, inst_at}
 use Rattle.valid_model.specs.Knowledge.{meaning_in}
 use Rattle.valid_model.specs.Meanings.{meaning}
 use Rattle.check_model.specs.Validity.{IsValidList}
@@ -36,14 +36,13 @@ use Rattle.change_model.specs.declared.fate.Fate.TheVariants.{Stays}
 use Rattle.change_model.specs.Folding.{function_at}
 use Rattle.change_model.specs.Following.{AreAlike}
 use Rattle.change_model.specs.Keeping.{IsKept}
-use Rattle.change_model.specs.Plans.{Plan, is_dead, changed}
+use Rattle.change_model.specs.Plans.{Plan, changed}
 use Rattle.change_model.specs.PlanRules.{IsPlan}
 use Rattle.change_model.proofs.ChangedDefinitions.{level_stays, old_defined}
 use Rattle.change_model.proofs.ChangedLabels.{label_left}
 use Rattle.change_model.proofs.ChangedMeanings.{level_known, written_known}
-use Rattle.change_model.proofs.ChangedPlaces.{place_left}
 use Rattle.change_model.proofs.ChangedShapes.{shape_in, shapes_changed}
-use Rattle.change_model.proofs.ChangedVariables.{AreAlikeThere, alike_there, variable_old, other_class}
+use Rattle.change_model.proofs.ChangedVariables.{alike_there, variable_old, other_class}
 use Rattle.change_model.proofs.FoldedKeeps.{program_has}
 use Rattle.change_model.proofs.Followed.{same_insts}
 use Rattle.change_model.proofs.Planned.{Planned}
@@ -116,13 +115,13 @@ held_where p q layout shapes variable means =
 
 -- ---- what is left
 
-record Found (test : Inst → Bool) (insts : List Inst) (inst : Inst) : Type 0 where
-  at : ℕ
-  within : at < length insts
-  there : inst_at insts at ≡ inst
-  passes : test inst ≡ true
+pub record Found (test : Inst → Bool) (insts : List Inst) (inst : Inst) : Type 0 where
+  pub at : ℕ
+  pub within : at < length insts
+  pub there : inst_at insts at ≡ inst
+  pub passes : test inst ≡ true
 
-found_in : (test : Inst → Bool) (insts : List Inst) (inst : Inst) → find test insts ≡ Some inst → Found test insts inst
+pub found_in : (test : Inst → Bool) (insts : List Inst) (inst : Inst) → find test insts ≡ Some inst → Found test insts inst
 found_in test [] inst is = cc
 found_in test (first ∷ insts) inst is = by_test (test first) refl is (λ rest. found_in test insts inst rest)
   where
@@ -239,7 +238,7 @@ all_kept g kind a b alike =
     }
 
 -- where nothing is unread, all is kept
-same_lists : (xs ys : List (List ℕ)) → length xs ≡ length ys → ((at : ℕ) → slice_index_or xs at [] ≡ slice_index_or ys at []) → xs ≡ ys
+pub same_lists : (xs ys : List (List ℕ)) → length xs ≡ length ys → ((at : ℕ) → slice_index_or xs at [] ≡ slice_index_or ys at []) → xs ≡ ys
 same_lists [] [] long same = refl
 same_lists [] (y ∷ ys) long same = absurd (omega (arith, long))
 same_lists (x ∷ xs) [] long same = absurd (omega (arith, long))

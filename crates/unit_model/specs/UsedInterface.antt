@@ -1,6 +1,7 @@
 -- Inputs that are fed, and outputs that are read.
-use Rattle.std.specs.Prelude.{ℕ, ◌==◌, Bool, true, false, not, ◌&&◌, ◌||◌, if◌then◌else◌, List, is_some, Option, None, Some}
-use Rattle.std.specs.List.{fold, list_all, list_any, slice_index_or}
+use Rattle.std.specs.Prelude.{ℕ, ◌==◌, Bool, false, not, ◌&&◌, if◌then◌else◌, List, filter, is_none, is_some, Option, None, Some}
+use Rattle.std.specs.List.{fold, list_all, list_any, range_with_len, slice_index_or}
+use Rattle.limits.specs.declared.TheConstants.{LOCATIONS}
 use Rattle.spirv_model.specs.declared.module.Inst.{Inst}
 use Rattle.spirv_model.specs.declared.op.TheConstants as op
 use Rattle.spirv_model.specs.declared.storage_class.TheConstants as storage_class
@@ -12,7 +13,6 @@ use Rattle.valid_model.specs.Definitions.{inst_at}
 use Rattle.valid_model.specs.Meanings.{meaning}
 use Rattle.valid_model.specs.DecorationWords.{decoration_of}
 use Rattle.valid_model.specs.EarlierFacts.{is_variable_of}
-use Rattle.check_model.specs.Interfaces.{inputs_of, outputs_of}
 use Rattle.state_model.specs.declared.iface.Iface.{Iface}
 use Rattle.unit_model.specs.ConstantScalars.{function_places}
 
@@ -35,6 +35,10 @@ is_unfed fed insts id =
 -- the function names no input at a location without an output there
 abbrev pub names_fed_inputs : Iface → List Inst → Bool
 names_fed_inputs fed insts = list_all (λ place. list_all (λ id. not (is_unfed fed insts id)) (ids (inst_at insts place))) (function_places insts)
+
+-- the locations without anything
+abbrev pub unfed : Iface → List ℕ
+unfed iface = filter (λ location. is_none (slice_index_or iface.slots location None)) (range_with_len 0 LOCATIONS)
 
 -- ---- outputs
 
