@@ -265,3 +265,5 @@ pub mod ConstantsSpecialized
 pub mod Rounds
 pub mod FoundWhole
 pub mod SweptWritten
+pub mod SweptPlaces
+pub mod SweptUses

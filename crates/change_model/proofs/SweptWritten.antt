@@ -147,7 +147,7 @@ module _ (is_unread : ℕ → Bool) (words : Words) (v : IsValidList words) (pla
 
 -- ---- the list
 
-no_pieces : {X : Type 0} (f : ℕ → List X) → ((place : ℕ) → f place ≡ []) → (places : List ℕ) → flat_map f places ≡ []
+pub no_pieces : {X : Type 0} (f : ℕ → List X) → ((place : ℕ) → f place ≡ []) → (places : List ℕ) → flat_map f places ≡ []
 no_pieces f none [] = refl
 no_pieces f none (place ∷ places) = ap (λ l. l ++ flat_map f places) (none place) ∙ no_pieces f none places
 
