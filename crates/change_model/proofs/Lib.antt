@@ -267,3 +267,4 @@ pub mod FoundWhole
 pub mod SweptWritten
 pub mod SweptPlaces
 pub mod SweptUses
+pub mod PointersNamed
