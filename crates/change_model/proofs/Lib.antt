@@ -268,3 +268,4 @@ pub mod SweptWritten
 pub mod SweptPlaces
 pub mod SweptUses
 pub mod PointersNamed
+pub mod SweptUnread
