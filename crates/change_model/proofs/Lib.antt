@@ -268,4 +268,5 @@ pub mod SweptWritten
 pub mod SweptPlaces
 pub mod SweptUses
 pub mod PointersNamed
+pub mod VariablesMean
 pub mod SweptUnread

@@ -51,6 +51,7 @@ use Rattle.change_model.proofs.SweptPlaces.{SweptFrom, new_behind, swept_from}
 use Rattle.change_model.proofs.TakenOperands.{clash, is_taken_type, is_object}
 use Rattle.change_model.proofs.TakenUses.{IsPointedTo, loaded, stored, based}
 use Rattle.change_model.proofs.TypesNamed.{means}
+use Rattle.change_model.proofs.VariablesMean.{variable_means}
 
 refuted : (b : Bool) → (b ≡ true → ⊥) → b ≡ false
 refuted true isnt = absurd (isnt refl)
@@ -220,3 +221,9 @@ swept_unread is_unread words v plan s id at held class defined early is unread =
     let new = changed plan words.insts in
     all_filtered (λ place. not (is_among id (ids (inst_at new place)))) (is_in_function new) 0 (length new)
     (λ place less inside. ap not (swept_unread_at is_unread words v plan s id at held class defined is unread early place inside (omega (arith, less))))
+
+-- the same, of an OpVariable
+pub swept_unread_variable : (is_unread : ℕ → Bool) (words : Words) (v : IsValidList words) (plan : Plan) → IsSwept is_unread words v plan → (id at : ℕ) → definition words.insts id ≡ Some at → at < v.derivation.before
+    → (inst_at words.insts at).op ≡ op.VARIABLE → plan.is_unread id ≡ true → list_all (λ place. not (is_among id (ids (inst_at (changed plan words.insts) place)))) (function_places (changed plan words.insts)) ≡ true
+swept_unread_variable is_unread words v plan s id at defined early is unread =
+    swept_unread is_unread words v plan s id at (word_at 0 (inst_at words.insts at)) (word_at 2 (inst_at words.insts at)) defined early (variable_means words v at id defined is) unread
