@@ -50,14 +50,14 @@ use Rattle.change_model.proofs.PredecessorsLeft.{phi_names}
 use Rattle.change_model.proofs.TakenOperands.{clash, is_taken_type}
 use Rattle.change_model.proofs.TypesNamed.{means}
 
-plain_uses : (of : Option Class) → is_plain_class of ≡ true → uses_operands of ≡ true
+pub plain_uses : (of : Option Class) → is_plain_class of ≡ true → uses_operands of ≡ true
 plain_uses (Some class.Undef) is = refl
 plain_uses (Some class.Memory) is = refl
 plain_uses (Some class.Composite) is = refl
 plain_uses (Some (class.Scalar operation)) is = refl
 plain_uses of is = cc
 
-variable_uses : uses_operands (class_of op.VARIABLE) ≡ true
+pub variable_uses : uses_operands (class_of op.VARIABLE) ≡ true
 unfolding class_of entry_of
 variable_uses = refl
 
@@ -146,7 +146,7 @@ module _ (f : Found) (stays : (place : ℕ) → f.plan.fate place ≡ fate.Stays
 -- ---- in the function
 
 -- OpFunctionEnd names nothing
-end_ids : (words : List ℕ) (id : ℕ) → is_among id (ids (instruction op.FUNCTION_END words)) ≡ false
+pub end_ids : (words : List ℕ) (id : ℕ) → is_among id (ids (instruction op.FUNCTION_END words)) ≡ false
 unfolding ids kinds entry_of
 end_ids [] id = refl
 end_ids (word ∷ words) id = refl

@@ -56,11 +56,11 @@ use Rattle.change_model.proofs.TypesNamed.{means}
 
 -- ---- chains into inputs
 
-chain_gives : (has_result_class (class_of op.ACCESS_CHAIN) ≡ true) × (is_plain op.ACCESS_CHAIN ≡ true) × (is_type op.ACCESS_CHAIN ≡ false) × (is_constant op.ACCESS_CHAIN ≡ false)
+pub chain_gives : (has_result_class (class_of op.ACCESS_CHAIN) ≡ true) × (is_plain op.ACCESS_CHAIN ≡ true) × (is_type op.ACCESS_CHAIN ≡ false) × (is_constant op.ACCESS_CHAIN ≡ false)
 unfolding class_of entry_of
 chain_gives = (refl, refl, refl, refl)
 
-chain_fit : (typing : Typing) (words : List ℕ) → operands_fit typing (instruction op.ACCESS_CHAIN words) ≡ true
+pub chain_fit : (typing : Typing) (words : List ℕ) → operands_fit typing (instruction op.ACCESS_CHAIN words) ≡ true
     → chain_fits typing (word_at 0 (instruction op.ACCESS_CHAIN words)) (typing.meaning (word_at 2 (instruction op.ACCESS_CHAIN words))) (words_from 3 (instruction op.ACCESS_CHAIN words)) ≡ true
 unfolding operands_fit class_of entry_of memory_operands_fit
 chain_fit typing words fit = fit
@@ -128,7 +128,7 @@ null_goes f place is zero stays = by_block (is_dead (f.plan.fate (place - 1))) r
     by_block false alive =
         no_nulls (sym (alive_fate f place w.0 w.1 no_label alive ∙ alive_load f place is ∙ taken (is_zero_input f.words.insts f.zeros (root_of f.words.insts (word_at 2 (inst_at f.words.insts place)))) fate.Nulls fate.Stays zero) ∙ stays)
 
-chain_rooted : (insts : List Inst) (id place : ℕ) → definition insts id ≡ Some place → (inst_at insts place).op ≡ op.ACCESS_CHAIN → root_of insts id ≡ word_at 2 (inst_at insts place)
+pub chain_rooted : (insts : List Inst) (id place : ℕ) → definition insts id ≡ Some place → (inst_at insts place).op ≡ op.ACCESS_CHAIN → root_of insts id ≡ word_at 2 (inst_at insts place)
 unfolding root_of
 chain_rooted insts id place defined is = ap (root_by insts id) defined ∙ taken ((inst_at insts place).op == op.ACCESS_CHAIN) (word_at 2 (inst_at insts place)) id (eq-eqb (inst_at insts place).op op.ACCESS_CHAIN is)
 

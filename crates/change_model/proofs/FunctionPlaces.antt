@@ -53,7 +53,7 @@ behind_function insts d place is =
       | inr behind ↦ omega (arith, behind, less)
     ]
 
-all_filtered : (p q : ℕ → Bool) (from n : ℕ) → ((x : ℕ) → x < from + n → q x ≡ true → p x ≡ true) → list_all p (filter q (range_with_len from n)) ≡ true
+pub all_filtered : (p q : ℕ → Bool) (from n : ℕ) → ((x : ℕ) → x < from + n → q x ≡ true → p x ≡ true) → list_all p (filter q (range_with_len from n)) ≡ true
 all_filtered p q from zero all = refl
 all_filtered p q from (suc n) all = by_test (q from) refl (all_filtered p q (from + 1) n (λ x less is. all x (omega (arith, less)) is))
   where

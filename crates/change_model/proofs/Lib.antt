@@ -269,3 +269,9 @@ pub mod SweptPlans
 pub mod SlotsThere
 pub mod UnfedInputs
 pub mod OptimisedFits
+pub mod SweptWritten
+pub mod SweptPlaces
+pub mod SweptUses
+pub mod PointersNamed
+pub mod VariablesMean
+pub mod SweptUnread
