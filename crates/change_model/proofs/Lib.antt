@@ -275,3 +275,4 @@ pub mod SweptUses
 pub mod PointersNamed
 pub mod VariablesMean
 pub mod SweptUnread
+pub mod SweptRuns

@@ -222,6 +222,7 @@ AreGivenAlike insts settled entries = (is_specialized insts ≡ true) ⊎ (settl
 
 level_alike : (g : Planned) (settled entries : SpecValues) (n : ℕ) → (program_of (changed g.plan g.words.insts)).layout ≡ (program_of g.words.insts).layout → AreGivenAlike g.words.insts settled entries
     → fold (with_definition (program_of (changed g.plan g.words.insts)) settled) no_values (take n g.words.insts) ≡ fold (with_definition (program_of g.words.insts) entries) no_values (take n g.words.insts)
+unfolding program_of
 level_alike g settled entries n layout (inl special) = fold_same (program_of (changed g.plan g.words.insts)) (program_of g.words.insts) layout settled entries g.words.insts n no_values special
 level_alike g settled entries n layout (inr same) =
     ap (λ (f : Values → Inst → Values). fold f no_values (take n g.words.insts))

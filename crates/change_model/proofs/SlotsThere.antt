@@ -43,7 +43,7 @@ use Rattle.change_model.proofs.Settlings.{op_is}
 
 -- ---- locations are below the limit
 
-all_three : (a b c : Bool) → (a && b && c) ≡ true → (a ≡ true) × (b ≡ true) × (c ≡ true)
+pub all_three : (a b c : Bool) → (a && b && c) ≡ true → (a ≡ true) × (b ≡ true) × (c ≡ true)
 all_three true true true is = (refl, refl, refl)
 all_three true true false is = cc
 all_three true false c is = cc
@@ -110,7 +110,7 @@ placed_by facts before type id class keeps =
     let p = first_of_five (bad_interface facts id class) (bad_location facts id type) (bad_uniform facts before type id class) (bad_push facts before type class) (second_position facts before id) keeps in
     record { interface = p.0; location = p.1 }
 
-variable_placed : (words : Words) → IsValidList words → (place : ℕ) → place < length words.insts → (inst_at words.insts place).op == op.VARIABLE ≡ true
+pub variable_placed : (words : Words) → IsValidList words → (place : ℕ) → place < length words.insts → (inst_at words.insts place).op == op.VARIABLE ≡ true
     → IsPlaced (facts_of words.insts) (word_at 0 (inst_at words.insts place)) (word_at 1 (inst_at words.insts place)) (word_at 2 (inst_at words.insts place))
 unfolding bad_decoration
 variable_placed words v place within is =
@@ -260,7 +260,7 @@ input_is_there words v location (id, input) =
 
 -- ---- an input at a location is no built-in
 
-no_built_in : (place built_in : Bool) → place ≡ true → lacks_place place built_in ≡ false → built_in ≡ false
+pub no_built_in : (place built_in : Bool) → place ≡ true → lacks_place place built_in ≡ false → built_in ≡ false
 no_built_in true built_in is bad = bad
 no_built_in false built_in is bad = cc
 
