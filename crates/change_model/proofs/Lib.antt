@@ -264,3 +264,4 @@ pub mod SpecializedLeft
 pub mod ConstantsSpecialized
 pub mod Rounds
 pub mod FoundWhole
+pub mod Sifted
