@@ -265,3 +265,4 @@ pub mod ConstantsSpecialized
 pub mod Rounds
 pub mod FoundWhole
 pub mod Sifted
+pub mod DroppedPlaces

@@ -27,6 +27,14 @@ sifted_append goes f (x ∷ xs) ys = by_test (sifted_append goes f xs ys) (goes 
         sifted_cons goes f x (xs ++ ys) isnt ∙ ap (λ (l : List Inst). f x ∷ l) rest
         ∙ ap (λ (l : List Inst). l ++ sifted goes f ys) (sym (sifted_cons goes f x xs isnt))
 
+-- where all stay as they are
+pub sifted_same : (goes : Inst → Bool) (f : Inst → Inst) (insts : List Inst) → ((k : ℕ) → k < length insts → goes (inst_at insts k) ≡ false) → ((k : ℕ) → k < length insts → f (inst_at insts k) ≡ inst_at insts k) → sifted goes f insts ≡ insts
+sifted_same goes f [] stay same = refl
+sifted_same goes f (inst ∷ insts) stay same =
+    sifted_cons goes f inst insts (stay 0 (omega arith))
+    ∙ ap (λ (i : Inst). i ∷ sifted goes f insts) (same 0 (omega arith))
+    ∙ ap (λ (l : List Inst). inst ∷ l) (sifted_same goes f insts (λ k within. stay (suc k) (omega (arith, within))) (λ k within. same (suc k) (omega (arith, within))))
+
 -- ---- tests
 
 -- a test that says the same of what stands for an instruction, and doesn't pass for what is gone
