@@ -1,7 +1,8 @@
 -- Which place of the old list a place of the new one is, where variables and constants of the module's level are dropped; the function
 -- stands as it was.
 use Rattle.std.proofs.Common.{◌≡◌, ℕ, ◌+◌, ◌<◌, ◌≤◌, ◌==◌, ◌&&◌, ◌||◌, inl, inr, Bool, true, false, if◌then◌else◌, List, length, take, drop, get_or, ◌++◌, refl, ap, sym, ◌∙◌, subst, arith, length-append, length-drop, take-append-drop, Option, None, Some}
-use Rattle.std.proofs.lemmas.List.{drop_at, get_or-drop}
+use Rattle.std.proofs.lemmas.List.{drop_at, get_or-drop, get_or-take, length-take-le}
+use Rattle.std.proofs.Math.Seq.{take-add}
 use Rattle.spirv_model.specs.declared.module.Inst.{Inst}
 use Rattle.spirv_model.specs.declared.module.Words.{Words}
 use Rattle.spirv_model.specs.declared.op.TheConstants as op
@@ -86,7 +87,6 @@ entry_op gone inst = by_test (inst.op == op.ENTRY_POINT)
 entry_result : (words : List ℕ) → result (record { op = op.ENTRY_POINT; words = words }) ≡ None
 unfolding result entry_of
 entry_result words = refl
-
 
 pub entry_silent : (inst : Inst) → inst.op == op.ENTRY_POINT ≡ true → result inst ≡ None
 entry_silent inst is = ap (λ (o : ℕ). result (record { op = o; words = inst.words })) (op_is inst.op op.ENTRY_POINT is) ∙ entry_result inst.words
@@ -182,6 +182,24 @@ pub function_inst : (words : Words) (v : IsValidList words) (gone : ℕ → Bool
 function_inst words v gone m n =
     sym (get_or-drop (dropped_before gone words.insts v.derivation) (dropped gone words.insts) n no_instruction)
     ∙ ap (λ (l : List Inst). get_or l n no_instruction) (same_function words v gone m) ∙ get_or-drop v.derivation.before words.insts n no_instruction
+
+-- where it stands then
+pub function_left : (words : Words) (v : IsValidList words) (gone : ℕ → Bool) → MayDrop words v gone → (n : ℕ) → v.derivation.before + n ≤ length words.insts
+    → dropped_left gone words.insts (v.derivation.before + n) ≡ dropped_before gone words.insts v.derivation + n
+function_left words v gone m n within =
+    let insts = words.insts in let before = v.derivation.before in
+    let all = length-drop before insts in
+    let long = length-take-le n (drop before insts) in
+    let fits : n ≤ length (drop before insts) = omega (arith, within, all) in
+    let same : dropped gone (take n (drop before insts)) ≡ take n (drop before insts) = dropped_same gone (take n (drop before insts))
+    (λ k less. let early : k < n = omega (arith, less, long, fits) in
+    subst (λ (i : Inst). is_dropped gone i ≡ false) (sym (get_or-drop before insts k no_instruction) ∙ sym (get_or-take n (drop before insts) k no_instruction early)) (function_stays words v gone m (before + k) (omega arith) (omega (arith, early, within))))
+    (λ k less. let early : k < n = omega (arith, less, long, fits) in
+    subst (λ (i : Inst). i.op == op.ENTRY_POINT ≡ false) (sym (get_or-drop before insts k no_instruction) ∙ sym (get_or-take n (drop before insts) k no_instruction early)) (no_entry_behind insts v.derivation (before + k) (omega arith) (omega (arith, early, within)))) in
+    let e : dropped gone (take (before + n) insts) ≡ dropped gone (take before insts) ++ take n (drop before insts) =
+    ap (dropped gone) (take-add before n insts) ∙ dropped_append gone (take before insts) (take n (drop before insts)) ∙ ap (λ (l : List Inst). dropped gone (take before insts) ++ l) same in
+    let lengths = ap length e ∙ length-append (dropped gone (take before insts)) (take n (drop before insts)) in
+    omega (arith, lengths, long, fits)
 
 pub function_length : (words : Words) (v : IsValidList words) (gone : ℕ → Bool) → MayDrop words v gone
     → length (dropped gone words.insts) + v.derivation.before ≡ dropped_before gone words.insts v.derivation + length words.insts

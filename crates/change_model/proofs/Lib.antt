@@ -266,3 +266,4 @@ pub mod Rounds
 pub mod FoundWhole
 pub mod Sifted
 pub mod DroppedPlaces
+pub mod DroppedDefinitions
