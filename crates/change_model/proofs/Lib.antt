@@ -267,3 +267,5 @@ pub mod FoundWhole
 pub mod Sifted
 pub mod DroppedPlaces
 pub mod DroppedDefinitions
+pub mod StayingWords
+pub mod DroppedMeanings
