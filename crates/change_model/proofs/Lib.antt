@@ -269,3 +269,4 @@ pub mod DroppedPlaces
 pub mod DroppedDefinitions
 pub mod StayingWords
 pub mod DroppedMeanings
+pub mod DroppedDecorations
