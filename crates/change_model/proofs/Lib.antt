@@ -270,3 +270,4 @@ pub mod DroppedDefinitions
 pub mod StayingWords
 pub mod DroppedMeanings
 pub mod DroppedDecorations
+pub mod DroppedFacts
