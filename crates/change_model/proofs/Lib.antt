@@ -271,3 +271,4 @@ pub mod StayingWords
 pub mod DroppedMeanings
 pub mod DroppedDecorations
 pub mod DroppedFacts
+pub mod DroppedEntries
