@@ -7,6 +7,7 @@ use Rattle.spirv_model.specs.declared.op.TheConstants as op
 use Rattle.spirv_model.specs.Operands.{word_at, entry_of, result}
 use Rattle.valid_model.specs.Definitions.{has_result, gives, inst_at, definition, is_earlier, twice_by, id_twice}
 use Rattle.typed_model.proofs.BlockParts.{clash}
+use Rattle.typed_model.proofs.TypedSteps.{gives_at}
 use Rattle.change_model.specs.Dropping.{is_gone, is_decoration, is_dropped, entry_without, dropped}
 use Rattle.change_model.proofs.DroppedPlaces.{dropped_left, DroppedPlace, result_stays, result_left}
 use Rattle.change_model.proofs.SettledPlaces.{earlier_is, long_enough}
@@ -55,6 +56,17 @@ gives_kept gone id stays = record {
   gone = λ inst is. dropped_gives gone id inst stays is;
 }
 
+-- what gives an id that stays isn't dropped
+pub giver_stays : (gone : ℕ → Bool) (id : ℕ) (inst : Inst) → gone id ≡ false → gives id inst ≡ true → is_dropped gone inst ≡ false
+giver_stays gone id inst stays gives_it = by_test (is_dropped gone inst) refl
+  where
+    by_test : (b : Bool) → is_dropped gone inst ≡ b → b ≡ false
+    by_test false isnt = refl
+    by_test true is = absurd (clash (gives id inst) gives_it (dropped_gives gone id inst stays is))
+
+pub definition_stays : (gone : ℕ → Bool) (insts : List Inst) (id place : ℕ) → gone id ≡ false → definition insts id ≡ Some place → is_dropped gone (inst_at insts place) ≡ false
+definition_stays gone insts id place stays at = giver_stays gone id (inst_at insts place) stays (gives_at insts id place at)
+
 -- what is left gives no id that goes
 pub gives_no_gone : (gone : ℕ → Bool) (id : ℕ) (inst : Inst) → gone id ≡ true → is_dropped gone inst ≡ false → gives id (entry_without gone inst) ≡ false
 gives_no_gone gone id inst is stays = ap (has_result id) (result_left gone inst) ∙ none (result inst) (result_stays gone inst stays)
@@ -73,6 +85,9 @@ gives_no_gone gone id inst is stays = ap (has_result id) (result_left gone inst)
 pub definition_kept : (gone : ℕ → Bool) (insts : List Inst) (id : ℕ) → gone id ≡ false → definition (dropped gone insts) id ≡ option_map (dropped_left gone insts) (definition insts id)
 unfolding dropped
 definition_kept gone insts id stays = definition_sifted (is_dropped gone) (entry_without gone) id (gives_kept gone id stays) insts
+
+pub defined_at_left : (gone : ℕ → Bool) (insts : List Inst) (id place : ℕ) → gone id ≡ false → definition insts id ≡ Some place → definition (dropped gone insts) id ≡ Some (dropped_left gone insts place)
+defined_at_left gone insts id place stays at = definition_kept gone insts id stays ∙ ap (option_map (dropped_left gone insts)) at
 
 -- an id that goes isn't defined
 pub definition_gone : (gone : ℕ → Bool) (insts : List Inst) (id : ℕ) → gone id ≡ true → definition (dropped gone insts) id ≡ None

@@ -30,11 +30,10 @@ use Rattle.valid_model.specs.Variables.{lacks_place, bad_interface, bad_location
 use Rattle.check_model.specs.Validity.{IsValidList}
 use Rattle.typed_model.proofs.BlockParts.{another, clash}
 use Rattle.typed_model.proofs.ValidTypes.{defined_within}
-use Rattle.typed_model.proofs.TypedSteps.{gives_at}
 use Rattle.change_model.specs.Dropping.{is_gone, is_decoration, is_dropped, words_left, entry_without, dropped, MayDrop}
 use Rattle.change_model.proofs.ChangedShapes.{shape_in, SaySame}
 use Rattle.change_model.proofs.DroppedDecorations.{decoration_kept, decoration_gone, offset_kept, offset_gone}
-use Rattle.change_model.proofs.DroppedDefinitions.{definition_kept, definition_gone, gives_kept}
+use Rattle.change_model.proofs.DroppedDefinitions.{definition_kept, definition_gone, definition_stays}
 use Rattle.change_model.proofs.DroppedMeanings.{meaning_kept, meaning_gone, shapes_dropped, none_goes}
 use Rattle.change_model.proofs.DroppedPlaces.{dropped_left, kept_place, entry_op, entry_same, entry_silent}
 use Rattle.change_model.proofs.SameFacts.{TellsTypes, same_told}
@@ -244,15 +243,8 @@ pub opcode_kept : (gone : ℕ → Bool) (insts : List Inst) (id : ℕ) → gone 
 unfolding opcode_of
 opcode_kept gone insts id stays = ap (option_map (opcode_at (dropped gone insts))) (definition_kept gone insts id stays) ∙ by_found (definition insts id) refl
   where
-    not_dropped : (place : ℕ) → definition insts id ≡ Some place → is_dropped gone (inst_at insts place) ≡ false
-    not_dropped place at = by_test (is_dropped gone (inst_at insts place)) refl
-      where
-        by_test : (b : Bool) → is_dropped gone (inst_at insts place) ≡ b → b ≡ false
-        by_test false isnt = refl
-        by_test true is = absurd (clash _ (gives_at insts id place at) ((gives_kept gone id stays).gone (inst_at insts place) is))
-
     by_found : (found : Option ℕ) → definition insts id ≡ found → option_map (opcode_at (dropped gone insts)) (option_map (dropped_left gone insts) found) ≡ option_map (opcode_at insts) found
     by_found None at = refl
     by_found (Some place) at =
-        let k = kept_place gone insts place (defined_within insts id place at) (not_dropped place at) in
+        let k = kept_place gone insts place (defined_within insts id place at) (definition_stays gone insts id place stays at) in
         ap (λ (n : ℕ). Some n) (ap (λ (i : Inst). i.op) k.inst ∙ entry_op gone (inst_at insts place))

@@ -18,7 +18,7 @@ use Rattle.typed_model.proofs.ValidTypes.{keeps_rules}
 use Rattle.change_model.specs.Dropping.{is_gone, is_decoration, is_dropped, words_left, entry_without, dropped, dropped_words, IsOfLevel, MayDrop}
 use Rattle.change_model.proofs.BehindLevel.{is_setting_class, setting_fails, fails_old, no_setting, are_settings}
 use Rattle.change_model.proofs.Settlings.{op_is}
-use Rattle.change_model.proofs.Sifted.{sifted, sifted_append, sifted_same, IsSiftedTest, PlaceIn, place_in, NewPlace, new_place}
+use Rattle.change_model.proofs.Sifted.{sifted, sifted_append, sifted_same, IsSiftedTest, PlaceIn, place_in, place_rises, NewPlace, new_place}
 
 -- ---- places
 
@@ -39,6 +39,14 @@ unfolding dropped
 dropped_place gone insts place within =
     let p = place_in (is_dropped gone) (entry_without gone) insts place within in
     record { old = p.old; within = p.within; stays = p.stays; front = p.front; inst = p.inst }
+
+-- so many stand before a place
+pub dropped_to : (gone : ℕ → Bool) (insts : List Inst) (place : ℕ) → place < length (dropped gone insts) → (p : DroppedPlace gone insts place) → dropped_left gone insts p.old ≡ place
+dropped_to gone insts place within p = let e = ap length p.front in let long = length-take-le place (dropped gone insts) in omega (arith, e, long, within)
+
+pub dropped_rises : (gone : ℕ → Bool) (insts : List Inst) (a b : ℕ) → a ≤ b → dropped_left gone insts a ≤ dropped_left gone insts b
+unfolding dropped
+dropped_rises gone insts a b less = place_rises (is_dropped gone) (entry_without gone) insts a b less
 
 pub record KeptPlace (gone : ℕ → Bool) (insts : List Inst) (old : ℕ) : Type 0 where
   pub within : dropped_left gone insts old < length (dropped gone insts)

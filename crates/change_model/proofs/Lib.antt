@@ -272,3 +272,4 @@ pub mod DroppedMeanings
 pub mod DroppedDecorations
 pub mod DroppedFacts
 pub mod DroppedEntries
+pub mod DroppedTypes

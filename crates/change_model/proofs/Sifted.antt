@@ -1,8 +1,9 @@
 -- Lists from which some instructions are gone, and in which the others stand as a function gives them.
-use Rattle.std.proofs.Common.{◌≡◌, ℕ, zero, suc, ◌<◌, ◌≤◌, ◌||◌, Bool, true, false, not, cond, if◌then◌else◌, List, [], ◌∷◌, ◌++◌, map, length, take, refl, ap, sym, ◌∙◌, subst, arith, Option, None, Some}
+use Rattle.std.proofs.Common.{◌≡◌, ℕ, zero, suc, ◌+◌, ◌-◌, ◌<◌, ◌≤◌, ◌||◌, Bool, true, false, not, cond, if◌then◌else◌, List, [], ◌∷◌, ◌++◌, map, length, take, drop, refl, ap, sym, ◌∙◌, subst, arith, length-append, Option, None, Some}
 use Rattle.std.specs.Prelude.{filter}
 use Rattle.std.specs.Option.{option_map}
 use Rattle.std.specs.List.{find, list_any}
+use Rattle.std.proofs.Math.Seq.{take-add}
 use Rattle.spirv_model.specs.declared.module.Inst.{Inst}
 use Rattle.valid_model.specs.Definitions.{gives, inst_at, definition}
 
@@ -115,6 +116,14 @@ place_in goes f (inst ∷ insts) place within = by_test (place_in goes f insts) 
 -- so many stand before it
 abbrev pub place_left : (Inst → Bool) → (Inst → Inst) → List Inst → ℕ → ℕ
 place_left goes f insts old = length (sifted goes f (take old insts))
+
+-- no fewer stand before a later place
+pub place_rises : (goes : Inst → Bool) (f : Inst → Inst) (insts : List Inst) (a b : ℕ) → a ≤ b → place_left goes f insts a ≤ place_left goes f insts b
+place_rises goes f insts a b less =
+    let e : place_left goes f insts b ≡ place_left goes f insts (a + (b - a)) = ap (place_left goes f insts) {x = b} {y = a + (b - a)} (omega (arith, less)) in
+    let s = ap (λ (l : List Inst). length (sifted goes f l)) (take-add a (b - a) insts) ∙ ap length (sifted_append goes f (take a insts) (take (b - a) (drop a insts)))
+    ∙ length-append (sifted goes f (take a insts)) (sifted goes f (take (b - a) (drop a insts))) in
+    omega (arith, e, s)
 
 pub record NewPlace (goes : Inst → Bool) (f : Inst → Inst) (insts : List Inst) (old : ℕ) : Type 0 where
   pub within : place_left goes f insts old < length (sifted goes f insts)
