@@ -273,3 +273,4 @@ pub mod DroppedDecorations
 pub mod DroppedFacts
 pub mod DroppedEntries
 pub mod DroppedTypes
+pub mod DroppedConstants
