@@ -274,3 +274,5 @@ pub mod DroppedFacts
 pub mod DroppedEntries
 pub mod DroppedTypes
 pub mod DroppedConstants
+pub mod DroppedJudged
+pub mod DroppedSound
