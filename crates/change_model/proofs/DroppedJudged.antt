@@ -1,6 +1,5 @@
 -- Decorations and variables are allowed as before where variables and constants are dropped.
-use Rattle.std.proofs.Common.{◌≡◌, ℕ, ◌<◌, ◌==◌, ◌&&◌, ◌||◌, Bool, true, false, not, if◌then◌else◌, List, length, take, slice_index, refl, ap, sym, ◌∙◌, Option, None, Some}
-use Rattle.std.specs.List.{list_any}
+use Rattle.std.proofs.Common.{◌≡◌, ℕ, ◌==◌, ◌&&◌, ◌||◌, Bool, true, false, not, if◌then◌else◌, List, length, take, slice_index, refl, ap, sym, ◌∙◌, Option, None, Some}
 use Rattle.spirv_model.specs.declared.module.Inst.{Inst}
 use Rattle.spirv_model.specs.declared.module.Words.{Words}
 use Rattle.spirv_model.specs.declared.decoration.TheConstants.{SPEC_ID, BUILT_IN, BINDING, DESCRIPTOR_SET, OFFSET}
@@ -11,7 +10,7 @@ use Rattle.spirv_model.specs.Operands.{word_at, entry_of, result}
 use Rattle.valid_model.specs.declared.meaning.Meaning.{Meaning}
 use Rattle.valid_model.specs.Blocks.{points_to_block}
 use Rattle.valid_model.specs.BuiltIns.{takes_built_in}
-use Rattle.valid_model.specs.DecorationWords.{is_listed, decorates, decoration_of, places_member}
+use Rattle.valid_model.specs.DecorationWords.{is_listed}
 use Rattle.valid_model.specs.Decorations.{is_out_of_range, repeats, bad_decorate, bad_member_decorate, breaks_decorations, bad_decoration}
 use Rattle.valid_model.specs.Definitions.{inst_at}
 use Rattle.valid_model.specs.EarlierFacts.{EarlierFacts, before_of, has_spec_id, is_variable_of, has_slot, is_position_variable}
@@ -19,12 +18,10 @@ use Rattle.valid_model.specs.Meanings.{meaning}
 use Rattle.valid_model.specs.ModuleFacts.{ModuleFacts, facts_of, is_word, opcode_of, is_spec_op, has_position}
 use Rattle.valid_model.specs.Variables.{bad_interface, bad_location, bad_slot, bad_uniform, bad_push, second_position, bad_variable}
 use Rattle.check_model.specs.Validity.{IsValidList}
-use Rattle.typed_model.proofs.BlockParts.{another}
-use Rattle.change_model.specs.Dropping.{is_gone, is_decoration, is_dropped, entry_without, dropped, MayDrop}
-use Rattle.change_model.proofs.ChangedShapes.{SaySame}
+use Rattle.change_model.specs.Dropping.{is_gone, is_dropped, entry_without, dropped, MayDrop}
 use Rattle.change_model.proofs.DroppedDecorations.{OnlyOp, passes_left, decorated_kept, placed_kept}
 use Rattle.change_model.proofs.DroppedFacts.{facts_without, facts_dropped, no_types_go, variable_said, built_in_said, opcode_kept}
-use Rattle.change_model.proofs.DroppedMeanings.{either_way, meaning_kept}
+use Rattle.change_model.proofs.DroppedMeanings.{meaning_kept}
 use Rattle.change_model.proofs.DroppedPlaces.{DroppedPlace, entry_op, entry_same, result_stays, target_stays}
 use Rattle.change_model.proofs.SameFacts.{variable_judged, built_in_same}
 use Rattle.change_model.proofs.Settlings.{op_is}

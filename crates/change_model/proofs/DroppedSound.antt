@@ -1,5 +1,5 @@
 -- Ids, types, constants and decorations are sound where variables and constants are dropped.
-use Rattle.std.proofs.Common.{◌≡◌, ℕ, ◌<◌, ◌==◌, Bool, true, false, List, length, refl, ap, ◌∙◌, Option, None}
+use Rattle.std.proofs.Common.{◌≡◌, ℕ, ◌<◌, ◌==◌, Bool, true, false, length, refl, ap, ◌∙◌, None}
 use Rattle.spirv_model.specs.declared.module.Inst.{Inst}
 use Rattle.spirv_model.specs.declared.module.Words.{Words}
 use Rattle.spirv_model.specs.declared.op.TheConstants as op
@@ -12,7 +12,7 @@ use Rattle.change_model.specs.Dropping.{entry_without, dropped, dropped_words, M
 use Rattle.change_model.proofs.ConstantsSound.{keeps_all, no_fault, no_rule_fault}
 use Rattle.change_model.proofs.DroppedConstants.{constants_dropped}
 use Rattle.change_model.proofs.DroppedDefinitions.{once_dropped}
-use Rattle.change_model.proofs.DroppedEntries.{EntryWords, entry_words, entry_bounded, entry_function_stays}
+use Rattle.change_model.proofs.DroppedEntries.{entry_words, entry_bounded, entry_function_stays}
 use Rattle.change_model.proofs.DroppedJudged.{decorations_dropped}
 use Rattle.change_model.proofs.DroppedPlaces.{dropped_place, entry_same}
 use Rattle.change_model.proofs.DroppedTypes.{types_dropped}
