@@ -72,6 +72,7 @@ pub mod SettledUses
 pub mod SettledValues
 pub mod SettledVisible
 pub mod Sifted
+pub mod SiftedWords
 pub mod Settlings
 pub mod LeftBlocks
 pub mod LeftCode
@@ -276,3 +277,4 @@ pub mod DroppedTypes
 pub mod DroppedConstants
 pub mod DroppedJudged
 pub mod DroppedSound
+pub mod DroppedWritten
