@@ -17,7 +17,8 @@ use Rattle.stage_model.specs.Start.{Values, constant_of, defined_by}
 use Rattle.typed_model.proofs.ValidModules.{valid_sound}
 use Rattle.change_model.specs.Constants.{is_spec_id, scalar_constant, is_spec_scalar, settled, constants}
 use Rattle.change_model.specs.Settling.{all_settled}
-use Rattle.change_model.proofs.Settlings.{op_is, settled_cons, settled_gone}
+use Rattle.change_model.proofs.Settlings.{op_is}
+use Rattle.change_model.proofs.SiftedWords.{sifted_shortens}
 use Rattle.change_model.proofs.SettledValues.{value_at_end}
 use Rattle.change_model.proofs.ConstantsKeep.{own_result}
 
@@ -115,35 +116,6 @@ settled_short program entries at_end values inst fits found = by_tests (inst.op 
 
 -- ---- all of them
 
-abbrev size : List Inst → ℕ
-size insts = length (flat_map words_of insts)
-
-size_more : (inst : Inst) (insts : List Inst) → size (inst ∷ insts) ≡ length inst.words + 1 + size insts
-size_more inst insts = let e = length-append (words_of inst) (flat_map words_of insts) in omega (arith, e)
-
--- with one instruction that is gone, and with one that is no longer
-grows : (a : ℕ) (new old : ℕ) → new ≤ old → new ≤ a + 1 + old
-grows a new old less = omega (arith, less)
-
-both_grow : (a b new old : ℕ) → a ≤ b → new ≤ old → a + 1 + new ≤ b + 1 + old
-both_grow a b new old first rest = omega (arith, first, rest)
-
-shorter : (f : Inst → Inst) (insts : List Inst) → ((k : ℕ) → k < length insts → length (f (inst_at insts k)).words ≤ length (inst_at insts k).words) → size (all_settled f insts) ≤ size insts
-shorter f [] short = omega arith
-shorter f (inst ∷ insts) short = by_test (shorter f insts (λ k within. short (suc k) (omega (arith, within)))) (is_spec_id inst) refl
-  where
-    by_test : size (all_settled f insts) ≤ size insts → (b : Bool) → is_spec_id inst ≡ b → size (all_settled f (inst ∷ insts)) ≤ size (inst ∷ insts)
-    by_test rest true is =
-        subst (λ (n : ℕ). n ≤ size (inst ∷ insts)) (sym (ap size (settled_gone f inst insts is)))
-        (subst (λ (n : ℕ). size (all_settled f insts) ≤ n) (sym (size_more inst insts)) (grows (length inst.words) (size (all_settled f insts)) (size insts) rest))
-    by_test rest false isnt =
-        subst (λ (n : ℕ). n ≤ size (inst ∷ insts)) (sym (ap size (settled_cons f inst insts isnt) ∙ size_more (f inst) (all_settled f insts)))
-        (subst (λ (n : ℕ). length (f inst).words + 1 + size (all_settled f insts) ≤ n) (sym (size_more inst insts))
-        (both_grow (length (f inst).words) (length inst.words) (size (all_settled f insts)) (size insts) (short 0 (omega arith)) rest))
-
-whole_size : (insts : List Inst) (bound : ℕ) → length (module_words insts bound) ≡ 5 + size insts
-whole_size insts bound = omega arith
-
 pub constants_shorten : (words : Words) → IsValidList words → (entries : SpecValues)
     → length (module_words (constants entries words.insts) words.bound) ≤ length (module_words words.insts words.bound)
 unfolding constants
@@ -153,8 +125,5 @@ constants_shorten words v entries =
     let at_end = defined_by q entries insts in
     let f : Inst → Inst = settled at_end in
     let s = valid_sound words v in
-    let less : size (all_settled f insts) ≤ size insts =
-    shorter f insts (λ k within. settled_short q entries at_end (defined_by q entries (take k insts)) (inst_at insts k) (s.shaped k within)
-    (λ is. value_at_end q entries words v.sound k within (own_result (inst_at insts k) is))) in
-    let a = whole_size (all_settled f insts) words.bound in let b = whole_size insts words.bound in
-    omega (arith, less, a, b)
+    sifted_shortens is_spec_id f insts words.bound (λ k within. settled_short q entries at_end (defined_by q entries (take k insts)) (inst_at insts k) (s.shaped k within)
+    (λ is. value_at_end q entries words v.sound k within (own_result (inst_at insts k) is)))

@@ -28,7 +28,7 @@ use Rattle.change_model.proofs.ConstantsStand.{settled_stands}
 use Rattle.change_model.proofs.SettledDecorations.{decorations_settled}
 use Rattle.change_model.proofs.SettledPlaces.{place_of, once_settled}
 use Rattle.change_model.proofs.SettledRules.{types_settled, constants_settled}
-use Rattle.change_model.proofs.Settlings.{settled_cons, settled_gone}
+use Rattle.change_model.proofs.SiftedWords.{sifted_fits}
 
 -- ---- no rule is broken at any place of the old list
 
@@ -99,15 +99,6 @@ constants_sound words v entries = no_fault (type_fault_at (with_constants entrie
 
 -- ---- it can be written
 
-all_fit : (f : Inst → Inst) (insts : List Inst) → ((k : ℕ) → k < length insts → is_some (kinds (f (inst_at insts k))) ≡ true) → list_all fits_table (all_settled f insts) ≡ true
-all_fit f [] fit = refl
-all_fit f (inst ∷ insts) fit = by_test (all_fit f insts (λ k within. fit (suc k) (omega (arith, within)))) (is_spec_id inst) refl
-  where
-    by_test : list_all fits_table (all_settled f insts) ≡ true → (b : Bool) → is_spec_id inst ≡ b → list_all fits_table (all_settled f (inst ∷ insts)) ≡ true
-    by_test rest true is = ap (list_all fits_table) (settled_gone f inst insts is) ∙ rest
-    by_test rest false isnt =
-        ap (list_all fits_table) (settled_cons f inst insts isnt) ∙ ap (λ (b : Bool). b && list_all fits_table (all_settled f insts)) (fit 0 (omega arith)) ∙ rest
-
 less_again : (a b c : ℕ) → a ≤ b → b ≤ c → a ≤ c
 less_again a b c first second = omega arith
 
@@ -117,7 +108,7 @@ constants_written words v entries =
     let insts = words.insts in
     let values = defined_by (program_of insts) entries insts in
     record {
-      fit = all_fit (settled values) insts (λ k within. (settled_well words.bound values (inst_at insts k) ((valid_sound words v).shaped k within) (keeps_all words v.sound k within).inside).shaped);
+      fit = sifted_fits is_spec_id (settled values) insts (λ k within stays. (settled_well words.bound values (inst_at insts k) ((valid_sound words v).shaped k within) (keeps_all words v.sound k within).inside).shaped);
       bound_least = v.writable.bound_least;
       bound_most = v.writable.bound_most;
       few = less_again _ _ _ (constants_shorten words v entries) v.writable.few;

@@ -71,6 +71,8 @@ pub mod SettledRules
 pub mod SettledUses
 pub mod SettledValues
 pub mod SettledVisible
+pub mod Sifted
+pub mod SiftedWords
 pub mod Settlings
 pub mod LeftBlocks
 pub mod LeftCode
@@ -276,3 +278,15 @@ pub mod PointersNamed
 pub mod VariablesMean
 pub mod SweptUnread
 pub mod SweptRuns
+pub mod DroppedPlaces
+pub mod DroppedDefinitions
+pub mod StayingWords
+pub mod DroppedMeanings
+pub mod DroppedDecorations
+pub mod DroppedFacts
+pub mod DroppedEntries
+pub mod DroppedTypes
+pub mod DroppedConstants
+pub mod DroppedJudged
+pub mod DroppedSound
+pub mod DroppedWritten
