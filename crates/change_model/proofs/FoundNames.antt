@@ -35,6 +35,7 @@ use Rattle.change_model.proofs.FoundOrigins as source
 use Rattle.change_model.proofs.FunctionKnown.{function_known, phi_facts}
 use Rattle.change_model.proofs.LeftScopes.{is_label_at}
 use Rattle.change_model.proofs.NamedTypes.{fit_as, phi_class}
+use Rattle.change_model.proofs.PairTypes.{pair_typed}
 use Rattle.change_model.proofs.PhiPairsLeft.{In, in_all, in_filtered}
 use Rattle.change_model.proofs.PlanRunsNames.{phi_result}
 use Rattle.change_model.proofs.PlanRunsValues.{own_defined}
@@ -219,22 +220,7 @@ phi_class_at f place is = ap class_of is ∙ phi_class
 -- a value of a phi has the phi's type, which is no pointer
 pub pair_fits : (f : Found) (place : ℕ) → place < f.valid.derivation.after → (inst_at f.words.insts place).op ≡ op.PHI → (pair : Incoming) → In pair (incoming (inst_at f.words.insts place))
     → (type_id (meaning f.words.insts pair.value) ≡ Some (word_at 0 (inst_at f.words.insts place))) × (is_pointer (meaning f.words.insts (word_at 0 (inst_at f.words.insts place))) ≡ false)
-pair_fits f place high is pair has =
-    let insts = f.words.insts in
-    let phi = inst_at insts place in
-    let type = word_at 0 phi in
-    let typing = typing_of insts in
-    let fit : list_all (incoming_fits typing type) (incoming phi) ≡ true =
-    sym (fit_as typing phi (Some class.Phi) (phi_class_at f place is)) ∙ (valid_sound f.words f.valid).fit place (function_within insts f.valid.derivation place high) in
-    let one = in_all (incoming_fits typing type) pair (incoming phi) has fit in
-    let of = word_is type (type_id (typing.meaning pair.value)) (first_of_both (has_type typing type pair.value) (not (is_pointer (typing.meaning type))) one) in (
-      ap type_id (sym (means insts pair.value)) ∙ of,
-      ap is_pointer (sym (means insts type)) ∙ shut (is_pointer (typing.meaning type)) (second_of_both (has_type typing type pair.value) (not (is_pointer (typing.meaning type))) one),
-    )
-  where
-    shut : (b : Bool) → not b ≡ true → b ≡ false
-    shut false is = refl
-    shut true is = cc
+pair_fits f place high is pair has = pair_typed f.words f.valid place high is pair has
 
 pub taken_by : (m : Meaning) → is_shape m ≡ true → is_pointer m ≡ false → is_taken_type m ≡ true
 taken_by m shape pointer = rw shape (rw pointer refl)

@@ -24,6 +24,7 @@ use Rattle.change_model.specs.declared.fate.Fate.TheVariants as fate
 use Rattle.change_model.specs.Plans.{predecessors_left, block_at}
 use Rattle.change_model.specs.PlanRules.{intervals_left, is_constant_fate, pairs_in, IsResolved, IsResolvedId}
 use Rattle.change_model.specs.Passes.{keeps_phis, is_there, stands_at, pairs_found}
+use Rattle.change_model.proofs.BlockBefore as behind
 use Rattle.change_model.proofs.ConstantsSound.{keeps_all}
 use Rattle.change_model.proofs.FoundGoes.{still_leads}
 use Rattle.change_model.proofs.FoundNames.{ResolvedPhi, resolved, phi_defined}
@@ -139,31 +140,11 @@ module _ (f : Found) where
 
   -- the label of the block that a place is in stands before it
   pub block_before : (at : ℕ) → at ≤ length f.words.insts → (block_at f.words.insts at ≡ 0) ⊎ ((l : ℕ) × (l < at) × (is_label_at f.words.insts l ≡ true) × (label_at f.words.insts l ≡ block_at f.words.insts at))
-  block_before zero most = inl refl
-  block_before (suc n) most =
-      by_label (is_label_at insts n) refl (label_behind_next 0 insts n (inst_at insts n) (slice_get-get_or insts n no_instruction (omega (arith, most)))) (block_before n (omega (arith, most)))
-    where
-      by_label : (b : Bool) → is_label_at f.words.insts n ≡ b → block_at f.words.insts (suc n) ≡ (if (inst_at f.words.insts n).op == op.LABEL then word_at 0 (inst_at f.words.insts n) else block_at f.words.insts n)
-          → (block_at f.words.insts n ≡ 0) ⊎ ((l : ℕ) × (l < n) × (is_label_at f.words.insts l ≡ true) × (label_at f.words.insts l ≡ block_at f.words.insts n))
-          → (block_at f.words.insts (suc n) ≡ 0) ⊎ ((l : ℕ) × (l < suc n) × (is_label_at f.words.insts l ≡ true) × (label_at f.words.insts l ≡ block_at f.words.insts (suc n)))
-      by_label true is same before = inr (n, omega arith, is, sym (same ∙ ap (λ (b : Bool). if b then word_at 0 (inst_at insts n) else block_at insts n) is))
-      by_label false isnt same before =
-          let on = same ∙ ap (λ (b : Bool). if b then word_at 0 (inst_at insts n) else block_at insts n) isnt in
-          elim before [ inl zero_is ↦ inl (on ∙ zero_is) | inr l ↦ (let low = l.1 in inr (l.0, omega (arith, low), l.2, l.3 ∙ sym on)) ]
+  block_before at most = behind.block_before f.words.insts at most
 
   -- no id that is given is zero
   pub given_some : (place id : ℕ) → place < length f.words.insts → result (inst_at f.words.insts place) ≡ Some id → id ≡ 0 → ⊥
-  unfolding id_out_of_bound
-  given_some place id within gives none =
-      let inst = inst_at insts place in
-      let bounded = true_of_result (λ id. nat_lt 0 id && nat_lt id f.words.bound) inst id ((valid_sound f.words f.valid).shaped place within)
-      (not_false (list_all (λ id. nat_lt 0 id && nat_lt id f.words.bound) (ids inst)) (keeps_all f.words f.valid.sound place within).inside) gives in
-      let above = ltb-true 0 id (first_of_both (nat_lt 0 id) (nat_lt id f.words.bound) bounded) in
-      omega (arith, above, none)
-    where
-      not_false : (b : Bool) → not b ≡ false → b ≡ true
-      not_false true is = refl
-      not_false false is = cc
+  given_some place id within gives none = behind.given_some f.words f.valid place id within gives none
 
   label_some : (l : ℕ) → l < length f.words.insts → is_label_at f.words.insts l ≡ true → label_at f.words.insts l ≡ 0 → ⊥
   label_some l within is none = given_some l (label_at insts l) within (label_result (inst_at insts l) is) none

@@ -241,6 +241,8 @@ pub mod FoundEntered
 pub mod FoundPairs
 pub mod FoundOnly
 pub mod FoundStays
+pub mod PairTypes
+pub mod BlockBefore
 pub mod FoundNames
 pub mod FoundUses
 pub mod FoundMisfits

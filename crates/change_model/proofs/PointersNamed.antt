@@ -30,6 +30,7 @@ use Rattle.typed_model.proofs.ValidTypes.{defined_within}
 use Rattle.change_model.specs.declared.fate.Fate.TheVariants.{Stays}
 use Rattle.change_model.specs.Plans.{Plan, block_at}
 use Rattle.change_model.specs.PlanRules.{merge_labels, is_shape}
+use Rattle.change_model.proofs.BlockBefore.{given_some, block_before}
 use Rattle.change_model.proofs.BlockIds.{Names, InPairs, label_names, selection_names, loop_names, end_names, phi_words}
 use Rattle.change_model.proofs.ConditionNames.{target_names, merge_names}
 use Rattle.change_model.proofs.ConstantsSound.{keeps_all}
@@ -41,7 +42,8 @@ use Rattle.change_model.proofs.LeftLeaves.{names_in}
 use Rattle.change_model.proofs.LeftScopes.{is_label_at, label_at, names}
 use Rattle.change_model.proofs.NamedIds.{ids_are}
 use Rattle.change_model.proofs.NamedTypes.{fit_as, phi_class}
-use Rattle.change_model.proofs.PhiPairsLeft.{In, in_all, in_blocks}
+use Rattle.change_model.proofs.PairTypes.{pair_typed}
+use Rattle.change_model.proofs.PhiPairsLeft.{In, in_blocks}
 use Rattle.change_model.proofs.PlanRunsRenamed.{operands_used}
 use Rattle.change_model.proofs.PlanRunsValues.{own_defined, result_at}
 use Rattle.change_model.proofs.PredecessorsLeft.{phi_names}
@@ -71,53 +73,6 @@ module _ (words : Words) (v : IsValidList words) where
   abbrev insts : List Inst
   insts = words.insts
 
-  -- no id that is given is zero
-  given_some : (place id : ℕ) → place < length words.insts → result (inst_at words.insts place) ≡ Some id → id ≡ 0 → ⊥
-  unfolding id_out_of_bound
-  given_some place id within gives none =
-      let inst = inst_at insts place in
-      let bounded = true_of_result (λ id. nat_lt 0 id && nat_lt id words.bound) inst id ((valid_sound words v).shaped place within)
-      (not_false (list_all (λ id. nat_lt 0 id && nat_lt id words.bound) (ids inst)) (keeps_all words v.sound place within).inside) gives in
-      let above = ltb-true 0 id (first_of_both (nat_lt 0 id) (nat_lt id words.bound) bounded) in
-      omega (arith, above, none)
-    where
-      not_false : (b : Bool) → not b ≡ false → b ≡ true
-      not_false true is = refl
-      not_false false is = cc
-
-  -- the label of the block that a place is in stands before it
-  block_before : (at : ℕ) → at ≤ length words.insts → (block_at words.insts at ≡ 0) ⊎ ((l : ℕ) × (l < at) × (is_label_at words.insts l ≡ true) × (label_at words.insts l ≡ block_at words.insts at))
-  block_before zero most = inl refl
-  block_before (suc n) most =
-      by_label (is_label_at insts n) refl (label_behind_next 0 insts n (inst_at insts n) (slice_get-get_or insts n no_instruction (omega (arith, most)))) (block_before n (omega (arith, most)))
-    where
-      by_label : (b : Bool) → is_label_at words.insts n ≡ b → block_at words.insts (suc n) ≡ (if (inst_at words.insts n).op == op.LABEL then word_at 0 (inst_at words.insts n) else block_at words.insts n)
-          → (block_at words.insts n ≡ 0) ⊎ ((l : ℕ) × (l < n) × (is_label_at words.insts l ≡ true) × (label_at words.insts l ≡ block_at words.insts n))
-          → (block_at words.insts (suc n) ≡ 0) ⊎ ((l : ℕ) × (l < suc n) × (is_label_at words.insts l ≡ true) × (label_at words.insts l ≡ block_at words.insts (suc n)))
-      by_label true is same before = inr (n, omega arith, is, sym (same ∙ ap (λ (b : Bool). if b then word_at 0 (inst_at insts n) else block_at insts n) is))
-      by_label false isnt same before =
-          let on = same ∙ ap (λ (b : Bool). if b then word_at 0 (inst_at insts n) else block_at insts n) isnt in
-          elim before [ inl zero_is ↦ inl (on ∙ zero_is) | inr l ↦ (let low = l.1 in inr (l.0, omega (arith, low), l.2, l.3 ∙ sym on)) ]
-
-  -- a value of a phi has the phi's type, which is no pointer
-  pair_typed : (place : ℕ) → place < v.derivation.after → (inst_at words.insts place).op ≡ op.PHI → (pair : Incoming) → In pair (incoming (inst_at words.insts place))
-      → (type_id (meaning words.insts pair.value) ≡ Some (word_at 0 (inst_at words.insts place))) × (is_pointer (meaning words.insts (word_at 0 (inst_at words.insts place))) ≡ false)
-  pair_typed place high is pair has =
-      let phi = inst_at insts place in
-      let type = word_at 0 phi in
-      let typing = typing_of insts in
-      let fit : list_all (incoming_fits typing type) (incoming phi) ≡ true =
-      sym (fit_as typing phi (Some class.Phi) (ap class_of is ∙ phi_class)) ∙ (valid_sound words v).fit place (function_within insts v.derivation place high) in
-      let one = in_all (incoming_fits typing type) pair (incoming phi) has fit in
-      let of = word_is type (type_id (typing.meaning pair.value)) (first_of_both (has_type typing type pair.value) (not (is_pointer (typing.meaning type))) one) in (
-        ap type_id (sym (means insts pair.value)) ∙ of,
-        ap is_pointer (sym (means insts type)) ∙ shut (is_pointer (typing.meaning type)) (second_of_both (has_type typing type pair.value) (not (is_pointer (typing.meaning type))) one),
-      )
-    where
-      shut : (b : Bool) → not b ≡ true → b ≡ false
-      shut false is = refl
-      shut true is = cc
-
   module _ (id : ℕ) (p : IsPointer words.insts id) where
     no_label_of : (at : ℕ) → at < length words.insts → is_label_at words.insts at ≡ true → label_at words.insts at ≡ id → ⊥
     no_label_of at within is own =
@@ -126,7 +81,7 @@ module _ (words : Words) (v : IsValidList words) where
         clash (is_label_at insts at) is (ap (is_label_at insts) same ∙ p.no_label)
 
     not_zero : id ≡ 0 → ⊥
-    not_zero none = given_some p.at id (defined_within insts id p.at p.defined) (result_at insts id p.at p.defined) none
+    not_zero none = given_some words v p.at id (defined_within insts id p.at p.defined) (result_at insts id p.at p.defined) none
 
     module _ (place : ℕ) (low : v.derivation.before < place) (high : place < v.derivation.after)
         (typed : (inst_at words.insts place).op ≡ op.PHI → is_shape (meaning words.insts (word_at 0 (inst_at words.insts place))) ≡ true) where
@@ -147,7 +102,7 @@ module _ (words : Words) (v : IsValidList words) where
 
       value_none : (pair : Incoming) → (inst_at words.insts place).op ≡ op.PHI → In pair (incoming (inst_at words.insts place)) → pair.value ≡ id → ⊥
       value_none pair is has same =
-          let t = pair_typed place high is pair has in
+          let t = pair_typed words v place high is pair has in
           let type = word_at 0 (inst_at insts place) in
           clash (is_taken_type (type_of (typing_of insts) id))
           (ap (λ (o : Option ℕ). is_taken_type (meaning_of (typing_of insts) o)) (ap type_id (means insts id) ∙ ap (λ (n : ℕ). type_id (meaning insts n)) (sym same) ∙ t.0)
@@ -157,7 +112,7 @@ module _ (words : Words) (v : IsValidList words) where
       block_none pair is has same =
           let n = phi_names every_plan words v place pair.block within (eq-eqb (inst_at insts place).op op.PHI is) (in_blocks pair (incoming (inst_at insts place)) has) in
           let inside = n.within in
-          elim (block_before n.end (omega (arith, inside))) [
+          elim (block_before words.insts n.end (omega (arith, inside))) [
             | inl none ↦ not_zero (sym same ∙ sym n.labelled ∙ none)
             | inr l ↦ (let less = l.1 in no_label_of l.0 (omega (arith, less, inside)) l.2 (l.3 ∙ n.labelled ∙ same))
           ]
