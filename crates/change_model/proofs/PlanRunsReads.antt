@@ -48,18 +48,24 @@ undef_reads : (before : ℕ) (words : List ℕ) → read_ids op.UNDEF before wor
 unfolding read_ids class_of entry_of
 undef_reads before words = refl
 
-by_class : (words : Words) (v : IsValidList words) (place before : ℕ) (inst : Inst) → (of : Option Class) → class_of inst.op ≡ of → is_some (kinds inst) ≡ true → Each (IsUsed (intervals_of v.derivation) words.insts place) (used_ids inst)
-    → operands_fit_class (typing_here words.insts (vertex_of words.insts)) of inst ≡ true → is_plain_class of ≡ true → Each (IsReadAt words v place) (read_ids inst.op before inst.words)
-by_class words v place before inst (Some class.Undef) is shaped seen fit plain =
-    at_op (λ (inst : Inst). Each (IsReadAt words v place) (read_ids inst.op before inst.words)) inst op.UNDEF (sym (ap (λ (of : Option Class). is_named of inst.op) is) ∙ named inst.op)
-    (subst (Each (IsReadAt words v place)) (sym (undef_reads before inst.words)) tt)
-by_class words v place before inst (Some class.Memory) is shaped seen fit plain =
-    memory_reads (IsUsed (intervals_of v.derivation) words.insts place) (typing_here words.insts (vertex_of words.insts)) (numbers_typed words.insts (vertex_of words.insts)) before inst shaped fit seen
-by_class words v place before inst (Some class.Composite) is shaped seen fit plain =
-    composite_reads (IsUsed (intervals_of v.derivation) words.insts place) (typing_here words.insts (vertex_of words.insts)) before inst shaped fit seen
-by_class words v place before inst (Some (class.Scalar operation)) is shaped seen fit plain =
-    scalar_uses (IsUsed (intervals_of v.derivation) words.insts place) (typing_here words.insts (vertex_of words.insts)) before inst operation is shaped fit seen
-by_class words v place before inst of is shaped seen fit plain = cc
+by_class : (P : ℕ → Type 0) (insts : List Inst) (before : ℕ) (inst : Inst) → (of : Option Class) → class_of inst.op ≡ of → is_some (kinds inst) ≡ true → Each P (used_ids inst)
+    → operands_fit_class (typing_here insts (vertex_of insts)) of inst ≡ true → is_plain_class of ≡ true → Each (IsRead P (typing_here insts (vertex_of insts))) (read_ids inst.op before inst.words)
+by_class P insts before inst (Some class.Undef) is shaped seen fit plain =
+    at_op (λ (inst : Inst). Each (IsRead P (typing_here insts (vertex_of insts))) (read_ids inst.op before inst.words)) inst op.UNDEF (sym (ap (λ (of : Option Class). is_named of inst.op) is) ∙ named inst.op)
+    (subst (Each (IsRead P (typing_here insts (vertex_of insts)))) (sym (undef_reads before inst.words)) tt)
+by_class P insts before inst (Some class.Memory) is shaped seen fit plain = memory_reads P (typing_here insts (vertex_of insts)) (numbers_typed insts (vertex_of insts)) before inst shaped fit seen
+by_class P insts before inst (Some class.Composite) is shaped seen fit plain = composite_reads P (typing_here insts (vertex_of insts)) before inst shaped fit seen
+by_class P insts before inst (Some (class.Scalar operation)) is shaped seen fit plain = scalar_uses P (typing_here insts (vertex_of insts)) before inst operation is shaped fit seen
+by_class P insts before inst of is shaped seen fit plain = cc
+
+-- what holds of all that a plain instruction uses holds of what it reads
+pub plain_uses : (P : ℕ → Type 0) (words : Words) (v : IsValidList words) (place before : ℕ) → place < v.derivation.after → is_plain (inst_at words.insts place).op ≡ true → Each P (used_ids (inst_at words.insts place))
+    → Each (IsRead P (typing_here words.insts (vertex_of words.insts))) (read_ids (inst_at words.insts place).op before (inst_at words.insts place).words)
+plain_uses P words v place before high plain uses =
+    let inst = inst_at words.insts place in
+    let within = function_within words.insts v.derivation place high in
+    let s = valid_sound words v in
+    by_class P words.insts before inst (class_of inst.op) refl (s.shaped place within) uses (fit_here words.insts inst (class_of inst.op) (s.fit place within) refl) plain
 
 no_phi : is_plain op.PHI ≡ false
 unfolding class_of entry_of
@@ -69,12 +75,8 @@ no_phi = refl
 pub plain_reads : (words : Words) (v : IsValidList words) (place before : ℕ) → place < v.derivation.after → is_plain (inst_at words.insts place).op ≡ true
     → Each (IsReadAt words v place) (read_ids (inst_at words.insts place).op before (inst_at words.insts place).words)
 plain_reads words v place before high plain =
-    let inst = inst_at words.insts place in
-    let within = function_within words.insts v.derivation place high in
-    let s = valid_sound words v in
-    by_class words v place before inst (class_of inst.op) refl (s.shaped place within)
-    (uses_seen (intervals_of v.derivation) words.insts place (valid_seen words v place within) (another is_plain op.PHI no_phi inst.op plain))
-    (fit_here words.insts inst (class_of inst.op) (s.fit place within) refl) plain
+    plain_uses (IsUsed (intervals_of v.derivation) words.insts place) words v place before high plain
+    (uses_seen (intervals_of v.derivation) words.insts place (valid_seen words v place (function_within words.insts v.derivation place high)) (another is_plain op.PHI no_phi (inst_at words.insts place).op plain))
 
 -- ---- what both sides agree on
 
