@@ -6,19 +6,17 @@ use Rattle.basics.proofs.Bools.{first_of_both}
 use Rattle.spirv_model.specs.declared.module.Inst.{Inst}
 use Rattle.spirv_model.specs.declared.op.TheConstants as op
 use Rattle.spirv_model.specs.declared.storage_class.TheConstants as storage_class
-use Rattle.spirv_model.specs.Operands.{word_at, words_from, entry_of, class_of, result}
+use Rattle.spirv_model.specs.Operands.{word_at, words_from, entry_of, class_of}
 use Rattle.body_model.specs.Classes.{is_plain}
-use Rattle.valid_model.specs.declared.meaning.IdFacts.{IdFacts}
 use Rattle.valid_model.specs.declared.meaning.Meaning.{Meaning}
-use Rattle.valid_model.specs.declared.meaning.Meaning.TheVariants.{Shape as OfShape, Variable, Value as OfValue}
+use Rattle.valid_model.specs.declared.meaning.Meaning.TheVariants.{Shape as OfShape, Variable}
 use Rattle.valid_model.specs.declared.meaning.Shape.TheVariants.{Pointer}
 use Rattle.spirv_model.specs.declared.decoration.TheConstants.{LOCATION, BUILT_IN}
 use Rattle.valid_model.specs.ModuleFacts.{is_word}
 use Rattle.valid_model.specs.Shapes.{pointee_id}
 use Rattle.valid_model.specs.DecorationWords.{decoration_of}
 use Rattle.valid_model.specs.Definitions.{definition, inst_at}
-use Rattle.valid_model.specs.Meanings.{is_constant, known_before, meaning}
-use Rattle.valid_model.specs.Types.{is_type}
+use Rattle.valid_model.specs.Meanings.{meaning}
 use Rattle.check_model.specs.Intervals.{intervals_of}
 use Rattle.check_model.specs.declared.components.Part.{Part}
 use Rattle.check_model.specs.declared.components.Part.TheVariants as part
@@ -27,12 +25,9 @@ use Rattle.check_model.specs.MemoryOperands.{load_fits, is_object_of, store_fits
 use Rattle.check_model.specs.OperandTypes.{is_pointer, operands_fit}
 use Rattle.check_model.specs.Storage.{points_to_read_only}
 use Rattle.check_model.specs.Typing.{Typing, typing_of, type_id, meaning_of, type_of}
-use Rattle.stage_model.specs.Effect.{has_result_class}
 use Rattle.typed_model.proofs.EffectsRun.{instruction}
 use Rattle.typed_model.proofs.FunctionRuns.{function_within}
-use Rattle.typed_model.proofs.ModuleValues.{meaning_at}
 use Rattle.typed_model.proofs.PlainRuns.{at_op}
-use Rattle.typed_model.proofs.ResultIds.{typed_result_id}
 use Rattle.typed_model.proofs.ValidModules.{valid_sound}
 use Rattle.change_model.specs.declared.fate.Fate.{Fate}
 use Rattle.change_model.specs.declared.fate.Fate.TheVariants as fate
@@ -45,11 +40,9 @@ use Rattle.change_model.proofs.FoundNames.{phi_meaning}
 use Rattle.change_model.proofs.FoundOrigins.{Origin, goes_away, by_phi, by_load, by_chain, by_untyped, by_selection, by_loop, by_end, by_branch, by_switch, by_picks, by_folds, origin, alive_fate, dead_fate}
 use Rattle.change_model.proofs.FoundOrigins as source
 use Rattle.change_model.proofs.FoundPlans.{Found}
-use Rattle.change_model.proofs.FoundUses.{load_inside, store_inside, chain_inside, stands_inside}
-use Rattle.change_model.proofs.FunctionKnown.{function_known, plain_facts}
+use Rattle.change_model.proofs.FoundUses.{load_inside, store_inside, stands_inside}
 use Rattle.change_model.proofs.LeftScopes.{is_label_at}
 use Rattle.change_model.proofs.PlanRunsNames.{phi_result}
-use Rattle.change_model.proofs.PlanRunsValues.{own_defined}
 use Rattle.change_model.proofs.PlanRunsZeros.{storage_here}
 use Rattle.change_model.proofs.TakenOperands.{clash, is_object, is_taken_type}
 use Rattle.change_model.proofs.TakenUses.{IsPointedTo, loaded, stored, based, IsMisfit}

@@ -1,53 +1,43 @@
 -- What is swept names no variable of the module's level that nobody reads.
-use Rattle.std.proofs.Common.{◌≡◌, ℕ, ◌+◌, ◌<◌, ◌≤◌, ◌⊎◌, inl, inr, Bool, true, false, not, ◌==◌, ◌||◌, ◌&&◌, if◌then◌else◌, List, [], ◌∷◌, length, refl, ap, sym, ◌∙◌, arith, Option, None, Some}
+use Rattle.std.proofs.Common.{◌≡◌, ℕ, ◌<◌, inl, inr, Bool, true, false, not, ◌==◌, ◌||◌, List, length, refl, ap, sym, ◌∙◌, arith, Option, Some}
 use Rattle.std.specs.List.{list_all}
 use Rattle.std.specs.Option.{option_map}
 use Rattle.std.proofs.lemmas.Bool.{cases_lt, eqb-true, eq-eqb}
 use Rattle.spirv_model.specs.declared.module.Inst.{Inst}
 use Rattle.spirv_model.specs.declared.module.Words.{Words}
 use Rattle.spirv_model.specs.declared.op.TheConstants as op
-use Rattle.spirv_model.specs.Operands.{word_at, words_from, class_of, ids, result}
+use Rattle.spirv_model.specs.Operands.{word_at, words_from, ids}
 use Rattle.body_model.specs.Classes.{is_plain}
 use Rattle.body_model.specs.Switches.{is_among}
-use Rattle.valid_model.specs.declared.meaning.IdFacts.{IdFacts}
 use Rattle.valid_model.specs.declared.meaning.Meaning.{Meaning}
 use Rattle.valid_model.specs.declared.meaning.Meaning.TheVariants.{Shape as OfShape, Variable, Value as OfValue}
 use Rattle.valid_model.specs.declared.meaning.Shape.TheVariants.{Pointer}
 use Rattle.valid_model.specs.Definitions.{definition, inst_at}
-use Rattle.valid_model.specs.Meanings.{is_constant, known_before, meaning}
+use Rattle.valid_model.specs.Meanings.{known_before, meaning}
 use Rattle.valid_model.specs.Shapes.{pointee_id}
-use Rattle.valid_model.specs.Types.{is_type}
 use Rattle.check_model.specs.declared.components.Part.{Part}
 use Rattle.check_model.specs.declared.components.Part.TheVariants as part
 use Rattle.check_model.specs.MemoryOperands.{is_pointer_to, chain_along, chain_fits}
-use Rattle.check_model.specs.OperandTypes.{operands_fit}
 use Rattle.check_model.specs.Storage.{is_in_function}
-use Rattle.check_model.specs.Typing.{Typing, typing_of, type_id, meaning_of, type_of}
+use Rattle.check_model.specs.Typing.{Typing, typing_of, type_id, meaning_of}
 use Rattle.check_model.specs.Validity.{IsValidList}
-use Rattle.stage_model.specs.Effect.{has_result_class}
 use Rattle.stage_model.specs.Program.{program_of}
-use Rattle.typed_model.proofs.EffectsRun.{instruction}
-use Rattle.typed_model.proofs.FunctionRuns.{function_within}
 use Rattle.typed_model.proofs.ModuleValues.{meaning_at}
 use Rattle.typed_model.proofs.PlainRuns.{at_op}
-use Rattle.typed_model.proofs.ResultIds.{typed_result_id}
-use Rattle.typed_model.proofs.ValidModules.{valid_sound}
 use Rattle.typed_model.proofs.ValidTypes.{valid_types, makes_variable, MakesVariable}
 use Rattle.unit_model.specs.ConstantScalars.{function_places}
 use Rattle.change_model.specs.declared.fate.Fate.TheVariants.{Stays}
 use Rattle.change_model.specs.Plans.{Plan, changed}
 use Rattle.change_model.specs.PlanRules.{root_of}
-use Rattle.change_model.specs.Sweeping.{is_sweepable, IsUsedBy, IsSwept}
+use Rattle.change_model.specs.Sweeping.{is_sweepable, IsSwept}
 use Rattle.change_model.proofs.BehindLevel.{end_op}
 use Rattle.change_model.proofs.ChainsGiven.{chain_gives, chain_here, no_value_chain, chain_result, chain_defined, chain_meaning}
 use Rattle.change_model.proofs.FoundUnnamed.{end_ids}
 use Rattle.change_model.proofs.FoundUses.{load_inside, store_inside, chain_inside, stands_inside}
-use Rattle.change_model.proofs.FunctionKnown.{function_known, plain_facts}
 use Rattle.change_model.proofs.FunctionPlaces.{all_filtered}
 use Rattle.change_model.proofs.PlanRunsRooted.{chain_root, own_root}
-use Rattle.change_model.proofs.PlanRunsValues.{own_defined}
 use Rattle.change_model.proofs.PointersNamed.{IsPointer, pointer_named}
-use Rattle.change_model.proofs.SweptPlaces.{SweptFrom, new_behind, swept_from}
+use Rattle.change_model.proofs.SweptPlaces.{new_behind, swept_from}
 use Rattle.change_model.proofs.TakenOperands.{clash, is_taken_type, is_object}
 use Rattle.change_model.proofs.TakenUses.{IsPointedTo, loaded, stored, based}
 use Rattle.change_model.proofs.TypesNamed.{means}
