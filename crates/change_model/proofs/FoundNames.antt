@@ -16,14 +16,13 @@ use Rattle.valid_model.specs.Meanings.{is_constant, known_before, meaning}
 use Rattle.valid_model.specs.Types.{is_type}
 use Rattle.check_model.specs.Branches.{block_end_of}
 use Rattle.check_model.specs.Intervals.{intervals_of, is_visible}
-use Rattle.check_model.specs.OperandTypes.{is_pointer, incoming_fits}
-use Rattle.check_model.specs.Typing.{typing_of, type_id, meaning_of, type_of, has_type}
+use Rattle.check_model.specs.OperandTypes.{is_pointer}
+use Rattle.check_model.specs.Typing.{typing_of, type_id, meaning_of, type_of}
 use Rattle.check_model.specs.Visibility.{Incoming, incoming, incoming_use, use_at, is_defined_for, is_visible_use}
 use Rattle.typed_model.proofs.FunctionRuns.{function_within}
 use Rattle.typed_model.proofs.ModuleValues.{meaning_at}
 use Rattle.typed_model.proofs.TypedSteps.{seen}
-use Rattle.typed_model.proofs.TypeLayouts.{word_is}
-use Rattle.typed_model.proofs.ValidModules.{valid_seen, valid_sound}
+use Rattle.typed_model.proofs.ValidModules.{valid_seen}
 use Rattle.change_model.specs.declared.fate.Fate.{Fate}
 use Rattle.change_model.specs.declared.fate.Fate.TheVariants as fate
 use Rattle.change_model.specs.Plans.{is_dead, leads_from, block_at}
@@ -34,7 +33,7 @@ use Rattle.change_model.proofs.FoundOrigins.{Origin, goes_away, by_phi, by_load,
 use Rattle.change_model.proofs.FoundOrigins as source
 use Rattle.change_model.proofs.FunctionKnown.{function_known, phi_facts}
 use Rattle.change_model.proofs.LeftScopes.{is_label_at}
-use Rattle.change_model.proofs.NamedTypes.{fit_as, phi_class}
+use Rattle.change_model.proofs.NamedTypes.{phi_class}
 use Rattle.change_model.proofs.PairTypes.{pair_typed}
 use Rattle.change_model.proofs.PhiPairsLeft.{In, in_all, in_filtered}
 use Rattle.change_model.proofs.PlanRunsNames.{phi_result}

@@ -1,31 +1,26 @@
 -- What stands for a phi that goes is defined before it, visible there by the intervals that are left, and not given in its block.
-use Rattle.std.proofs.Common.{◌≡◌, ℕ, zero, suc, ◌<◌, ◌≤◌, ◌⊎◌, inl, inr, Bool, true, false, not, ◌==◌, ◌||◌, ◌&&◌, nat_lt, if◌then◌else◌, List, [], ◌∷◌, length, refl, ap, sym, ◌∙◌, subst, arith, Option, Some}
-use Rattle.std.specs.List.{list_all}
-use Rattle.std.proofs.lemmas.Bool.{ltb-true, ne_eqb}
-use Rattle.std.proofs.lemmas.Option.{slice_get-get_or}
-use Rattle.basics.proofs.Bools.{first_of_both, second_of_both}
+use Rattle.std.proofs.Common.{◌≡◌, ℕ, zero, suc, ◌<◌, ◌≤◌, ◌⊎◌, inl, inr, Bool, true, false, not, ◌==◌, ◌||◌, ◌&&◌, nat_lt, List, [], ◌∷◌, length, refl, ap, sym, ◌∙◌, subst, arith, Option, Some}
+use Rattle.std.proofs.lemmas.Bool.{ne_eqb}
+use Rattle.basics.proofs.Bools.{second_of_both}
 use Rattle.spirv_model.specs.declared.module.Inst.{Inst}
 use Rattle.spirv_model.specs.declared.op.TheConstants as op
-use Rattle.spirv_model.specs.Operands.{word_at, entry_of, class_of, ids, result}
+use Rattle.spirv_model.specs.Operands.{word_at, entry_of, class_of, result}
 use Rattle.spirv_model.specs.declared.class.Class.{Class}
 use Rattle.spirv_model.specs.declared.class.Class.TheVariants as class
 use Rattle.body_model.specs.Classes.{is_plain_class, is_terminator_class, is_terminator}
-use Rattle.valid_model.specs.Definitions.{definition, inst_at, no_instruction, id_out_of_bound}
+use Rattle.valid_model.specs.Definitions.{definition, inst_at}
 use Rattle.check_model.specs.Intervals.{Interval, intervals_of, is_visible}
 use Rattle.check_model.specs.Visibility.{Incoming, incoming}
 use Rattle.typed_model.proofs.EffectsRun.{instruction}
 use Rattle.typed_model.proofs.PlainRuns.{at_op}
 use Rattle.typed_model.proofs.BlockParts.{another}
-use Rattle.typed_model.proofs.BlockLists.{label_behind_next}
 use Rattle.typed_model.proofs.FunctionRuns.{function_within}
 use Rattle.typed_model.proofs.TypedSteps.{seen}
-use Rattle.typed_model.proofs.ValidModules.{valid_sound}
 use Rattle.change_model.specs.declared.fate.Fate.TheVariants as fate
 use Rattle.change_model.specs.Plans.{predecessors_left, block_at}
 use Rattle.change_model.specs.PlanRules.{intervals_left, is_constant_fate, pairs_in, IsResolved, IsResolvedId}
 use Rattle.change_model.specs.Passes.{keeps_phis, is_there, stands_at, pairs_found}
 use Rattle.change_model.proofs.BlockBefore as behind
-use Rattle.change_model.proofs.ConstantsSound.{keeps_all}
 use Rattle.change_model.proofs.FoundGoes.{still_leads}
 use Rattle.change_model.proofs.FoundNames.{ResolvedPhi, resolved, phi_defined}
 use Rattle.change_model.proofs.FoundPlans.{Found}
@@ -35,7 +30,6 @@ use Rattle.change_model.proofs.LeftLeaves.{named_terminator}
 use Rattle.change_model.proofs.LeftPlacedWhole.{labels_once}
 use Rattle.change_model.proofs.LeftScopes.{is_label_at, label_at}
 use Rattle.change_model.proofs.NamesStand.{visible_fewer, visible_through}
-use Rattle.change_model.proofs.ResultsAmongIds.{true_of_result}
 use Rattle.change_model.proofs.TakenOperands.{clash}
 
 some_same : (a b : ℕ) → ◌≡◌ {A = Option ℕ} (Some a) (Some b) → a ≡ b

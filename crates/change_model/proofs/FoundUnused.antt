@@ -6,19 +6,17 @@ use Rattle.basics.proofs.Bools.{first_of_both}
 use Rattle.spirv_model.specs.declared.module.Inst.{Inst}
 use Rattle.spirv_model.specs.declared.op.TheConstants as op
 use Rattle.spirv_model.specs.declared.storage_class.TheConstants as storage_class
-use Rattle.spirv_model.specs.Operands.{word_at, words_from, entry_of, class_of, result}
+use Rattle.spirv_model.specs.Operands.{word_at, words_from, entry_of, class_of}
 use Rattle.body_model.specs.Classes.{is_plain}
-use Rattle.valid_model.specs.declared.meaning.IdFacts.{IdFacts}
 use Rattle.valid_model.specs.declared.meaning.Meaning.{Meaning}
-use Rattle.valid_model.specs.declared.meaning.Meaning.TheVariants.{Shape as OfShape, Variable, Value as OfValue}
+use Rattle.valid_model.specs.declared.meaning.Meaning.TheVariants.{Shape as OfShape, Variable}
 use Rattle.valid_model.specs.declared.meaning.Shape.TheVariants.{Pointer}
 use Rattle.spirv_model.specs.declared.decoration.TheConstants.{LOCATION, BUILT_IN}
 use Rattle.valid_model.specs.ModuleFacts.{is_word}
 use Rattle.valid_model.specs.Shapes.{pointee_id}
 use Rattle.valid_model.specs.DecorationWords.{decoration_of}
 use Rattle.valid_model.specs.Definitions.{definition, inst_at}
-use Rattle.valid_model.specs.Meanings.{is_constant, known_before, meaning}
-use Rattle.valid_model.specs.Types.{is_type}
+use Rattle.valid_model.specs.Meanings.{meaning}
 use Rattle.check_model.specs.Intervals.{intervals_of}
 use Rattle.check_model.specs.declared.components.Part.{Part}
 use Rattle.check_model.specs.declared.components.Part.TheVariants as part
@@ -27,55 +25,30 @@ use Rattle.check_model.specs.MemoryOperands.{load_fits, is_object_of, store_fits
 use Rattle.check_model.specs.OperandTypes.{is_pointer, operands_fit}
 use Rattle.check_model.specs.Storage.{points_to_read_only}
 use Rattle.check_model.specs.Typing.{Typing, typing_of, type_id, meaning_of, type_of}
-use Rattle.stage_model.specs.Effect.{has_result_class}
 use Rattle.typed_model.proofs.EffectsRun.{instruction}
 use Rattle.typed_model.proofs.FunctionRuns.{function_within}
-use Rattle.typed_model.proofs.ModuleValues.{meaning_at}
 use Rattle.typed_model.proofs.PlainRuns.{at_op}
-use Rattle.typed_model.proofs.ResultIds.{typed_result_id}
 use Rattle.typed_model.proofs.ValidModules.{valid_sound}
 use Rattle.change_model.specs.declared.fate.Fate.{Fate}
 use Rattle.change_model.specs.declared.fate.Fate.TheVariants as fate
 use Rattle.change_model.specs.Plans.{is_dead}
 use Rattle.change_model.specs.PlanRules.{root_by, root_of, is_input_of, is_among_locations, is_nothing, is_zero_input, is_shape, MayBeUnused, result_of}
 use Rattle.change_model.specs.Passes.{fate_alive}
+use Rattle.change_model.proofs.ChainsGiven.{chain_gives, chain_here, no_value_chain, chain_result, chain_defined, chain_meaning}
 use Rattle.change_model.proofs.FoundMisfits.{used_nowhere}
 use Rattle.change_model.proofs.FoundNames.{phi_meaning}
 use Rattle.change_model.proofs.FoundOrigins.{Origin, goes_away, by_phi, by_load, by_chain, by_untyped, by_selection, by_loop, by_end, by_branch, by_switch, by_picks, by_folds, origin, alive_fate, dead_fate}
 use Rattle.change_model.proofs.FoundOrigins as source
 use Rattle.change_model.proofs.FoundPlans.{Found}
-use Rattle.change_model.proofs.FoundUses.{load_inside, store_inside, chain_inside, stands_inside}
-use Rattle.change_model.proofs.FunctionKnown.{function_known, plain_facts}
+use Rattle.change_model.proofs.FoundUses.{load_inside, store_inside, stands_inside}
 use Rattle.change_model.proofs.LeftScopes.{is_label_at}
 use Rattle.change_model.proofs.PlanRunsNames.{phi_result}
-use Rattle.change_model.proofs.PlanRunsValues.{own_defined}
 use Rattle.change_model.proofs.PlanRunsZeros.{storage_here}
 use Rattle.change_model.proofs.TakenOperands.{clash, is_object, is_taken_type}
 use Rattle.change_model.proofs.TakenUses.{IsPointedTo, loaded, stored, based, IsMisfit}
 use Rattle.change_model.proofs.TypesNamed.{means}
 
 -- ---- chains into inputs
-
-pub chain_gives : (has_result_class (class_of op.ACCESS_CHAIN) ≡ true) × (is_plain op.ACCESS_CHAIN ≡ true) × (is_type op.ACCESS_CHAIN ≡ false) × (is_constant op.ACCESS_CHAIN ≡ false)
-unfolding class_of entry_of
-chain_gives = (refl, refl, refl, refl)
-
-pub chain_fit : (typing : Typing) (words : List ℕ) → operands_fit typing (instruction op.ACCESS_CHAIN words) ≡ true
-    → chain_fits typing (word_at 0 (instruction op.ACCESS_CHAIN words)) (typing.meaning (word_at 2 (instruction op.ACCESS_CHAIN words))) (words_from 3 (instruction op.ACCESS_CHAIN words)) ≡ true
-unfolding operands_fit class_of entry_of memory_operands_fit
-chain_fit typing words fit = fit
-
--- a chain leads into a variable
-no_value_chain : (f : Found) (place id type : ℕ) → (inst_at f.words.insts place).op ≡ op.ACCESS_CHAIN → word_at 2 (inst_at f.words.insts place) ≡ id → meaning f.words.insts id ≡ OfValue type → ⊥
-no_value_chain f place id type is at value =
-    let insts = f.words.insts in
-    let typing = typing_of insts in
-    let chain = inst_at insts place in
-    let w = stands_inside f.words f.valid place op.ACCESS_CHAIN chain_inside is in
-    let fit = at_op (λ (i : Inst). operands_fit typing i ≡ true → chain_fits typing (word_at 0 i) (typing.meaning (word_at 2 i)) (words_from 3 i) ≡ true) chain op.ACCESS_CHAIN (eq-eqb chain.op op.ACCESS_CHAIN is) (chain_fit typing chain.words)
-    ((valid_sound f.words f.valid).fit place (function_within insts f.valid.derivation place w.1)) in
-    clash (chain_fits typing (word_at 0 chain) (typing.meaning (word_at 2 chain)) (words_from 3 chain)) fit
-    (ap (λ (m : Meaning). chain_fits typing (word_at 0 chain) m (words_from 3 chain)) (ap typing.meaning at ∙ means insts id ∙ value))
 
 -- a pointer into an input
 record IsInputPointer (m : Meaning) : Type 0 where
@@ -128,7 +101,7 @@ null_goes f place is zero stays = by_block (is_dead (f.plan.fate (place - 1))) r
     by_block false alive =
         no_nulls (sym (alive_fate f place w.0 w.1 no_label alive ∙ alive_load f place is ∙ taken (is_zero_input f.words.insts f.zeros (root_of f.words.insts (word_at 2 (inst_at f.words.insts place)))) fate.Nulls fate.Stays zero) ∙ stays)
 
-pub chain_rooted : (insts : List Inst) (id place : ℕ) → definition insts id ≡ Some place → (inst_at insts place).op ≡ op.ACCESS_CHAIN → root_of insts id ≡ word_at 2 (inst_at insts place)
+chain_rooted : (insts : List Inst) (id place : ℕ) → definition insts id ≡ Some place → (inst_at insts place).op ≡ op.ACCESS_CHAIN → root_of insts id ≡ word_at 2 (inst_at insts place)
 unfolding root_of
 chain_rooted insts id place defined is = ap (root_by insts id) defined ∙ taken ((inst_at insts place).op == op.ACCESS_CHAIN) (word_at 2 (inst_at insts place)) id (eq-eqb (inst_at insts place).op op.ACCESS_CHAIN is)
 
@@ -137,49 +110,35 @@ module _ (f : Found) (place : ℕ) (low : f.valid.derivation.before < place) (hi
   abbrev chain : Inst
   chain = inst_at f.words.insts place
 
-  chain_result : result (inst_at f.words.insts place) ≡ Some (word_at 1 (inst_at f.words.insts place))
-  chain_result = typed_result_id chain (ap (λ (o : ℕ). has_result_class (class_of o)) is ∙ chain_gives.0) (ap (λ (o : ℕ). o == op.STORE) is)
-
-  chain_defined : definition f.words.insts (word_at 1 (inst_at f.words.insts place)) ≡ Some place
-  chain_defined = own_defined f.words f.valid place (word_at 1 chain) (function_within f.words.insts f.valid.derivation place high) chain_result
-
-  chain_meaning : meaning f.words.insts (word_at 1 (inst_at f.words.insts place)) ≡ OfValue (word_at 0 (inst_at f.words.insts place))
-  chain_meaning =
-      let insts = f.words.insts in
-      meaning_at insts place (word_at 1 chain) chain_defined
-      ∙ ap (λ (k : IdFacts). k.meaning)
-      (function_known (known_before insts place) chain (ap is_type is ∙ chain_gives.2) (ap is_constant is ∙ chain_gives.3) ∙ plain_facts chain (ap is_plain is ∙ chain_gives.1))
-
   chain_points : IsInputPointer ((typing_of f.words.insts).meaning (word_at 0 (inst_at f.words.insts place)))
   chain_points =
       let insts = f.words.insts in
       let typing = typing_of insts in
       chain_into typing (word_at 0 chain) (typing.meaning (word_at 2 chain)) (words_from 3 chain) (ap is_input_of (means insts (word_at 2 chain)) ∙ zero_is_input insts f.zeros (word_at 2 chain) zero)
-      (at_op (λ (i : Inst). operands_fit typing i ≡ true → chain_fits typing (word_at 0 i) (typing.meaning (word_at 2 i)) (words_from 3 i) ≡ true) chain op.ACCESS_CHAIN (eq-eqb chain.op op.ACCESS_CHAIN is) (chain_fit typing chain.words)
-      ((valid_sound f.words f.valid).fit place (function_within insts f.valid.derivation place high)))
+      (chain_here f.words f.valid place is)
 
   chain_type : type_of (typing_of f.words.insts) (word_at 1 (inst_at f.words.insts place)) ≡ OfShape (Pointer storage_class.INPUT chain_points.to)
   chain_type =
       let typing = typing_of f.words.insts in
-      ap (λ (m : Meaning). meaning_of typing (type_id m)) (means f.words.insts (word_at 1 chain) ∙ chain_meaning) ∙ chain_points.is
+      ap (λ (m : Meaning). meaning_of typing (type_id m)) (means f.words.insts (word_at 1 chain) ∙ (chain_meaning f.words f.valid place high is)) ∙ chain_points.is
 
   chain_misfit : IsMisfit f.words.insts (word_at 1 (inst_at f.words.insts place))
-  chain_misfit = record { value = ap is_object chain_meaning; apart = ap is_taken_type chain_type }
+  chain_misfit = record { value = ap is_object (chain_meaning f.words f.valid place high is); apart = ap is_taken_type chain_type }
 
   chain_free : (other : ℕ) → f.plan.fate other ≡ fate.Stays → IsPointedTo (inst_at f.words.insts other) (word_at 1 (inst_at f.words.insts place)) → ⊥
   chain_free other stays (loaded load at) =
       null_goes f other load
-      (ap (is_zero_input f.words.insts f.zeros) (ap (root_of f.words.insts) at ∙ chain_rooted f.words.insts (word_at 1 chain) place chain_defined is) ∙ zero) stays
+      (ap (is_zero_input f.words.insts f.zeros) (ap (root_of f.words.insts) at ∙ chain_rooted f.words.insts (word_at 1 chain) place (chain_defined f.words f.valid place high is) is) ∙ zero) stays
   chain_free other stays (stored store at) =
       let insts = f.words.insts in
       let w = stands_inside f.words f.valid other op.STORE store_inside store in
       clash (points_to_read_only (type_of (typing_of insts) (word_at 0 (inst_at insts other))))
       (ap (λ (n : ℕ). points_to_read_only (type_of (typing_of insts) n)) at ∙ ap points_to_read_only chain_type) (storage_here f.words f.valid other w.1 store)
-  chain_free other stays (based also at) = no_value_chain f other (word_at 1 chain) (word_at 0 chain) also at chain_meaning
+  chain_free other stays (based also at) = no_value_chain f.words f.valid other (word_at 1 chain) (word_at 0 chain) also at (chain_meaning f.words f.valid place high is)
 
   chain_unused : MayBeUnused f.plan f.words.insts place
   chain_unused =
-      result_of (word_at 1 chain) (by_plain (is_plain chain.op) (chain.op == op.PHI) (chain.op == op.VARIABLE) (ap is_plain is ∙ chain_gives.1)) chain_result
+      result_of (word_at 1 chain) (by_plain (is_plain chain.op) (chain.op == op.PHI) (chain.op == op.VARIABLE) (ap is_plain is ∙ chain_gives.1)) (chain_result f.words.insts place is)
       (used_nowhere f (word_at 1 chain) chain_misfit chain_free)
     where
       by_plain : (a b c : Bool) → a ≡ true → (a || b || c) ≡ true
@@ -236,7 +195,7 @@ module _ (f : Found) (place : ℕ) (high : place < f.valid.derivation.after) (is
       ((valid_sound f.words f.valid).fit other (function_within insts f.valid.derivation other w.1)) in
       clash (store_fits typing (word_at 0 user) (word_at 1 user)) fit
       (ap (λ (n : ℕ). store_fits typing n (word_at 1 user)) at ∙ ap (λ (to : Option ℕ). is_object_of typing to (word_at 1 user)) points_to_none)
-  untyped_free other stays (based also at) = no_value_chain f other (word_at 1 phi) (word_at 0 phi) also at (phi_meaning f place high is)
+  untyped_free other stays (based also at) = no_value_chain f.words f.valid other (word_at 1 phi) (word_at 0 phi) also at (phi_meaning f place high is)
 
   untyped_unused : MayBeUnused f.plan f.words.insts place
   untyped_unused =

@@ -245,6 +245,7 @@ pub mod PairTypes
 pub mod BlockBefore
 pub mod FoundNames
 pub mod FoundUses
+pub mod ChainsGiven
 pub mod FoundMisfits
 pub mod FoundUnused
 pub mod FoundCrossings

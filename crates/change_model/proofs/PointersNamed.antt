@@ -1,53 +1,40 @@
 -- What names a pointer in a function: the instruction that gives it, a load, a store, or a chain into it.
-use Rattle.std.proofs.Common.{◌≡◌, ℕ, zero, suc, ◌+◌, ◌<◌, ◌≤◌, ◌⊎◌, inl, inr, Bool, true, false, not, ◌==◌, ◌||◌, ◌&&◌, nat_lt, if◌then◌else◌, List, [], ◌∷◌, length, refl, ap, sym, ◌∙◌, arith, Option, None, Some}
-use Rattle.std.specs.List.{list_all}
-use Rattle.std.proofs.lemmas.Bool.{eqb-true, eq-eqb, ltb-true}
-use Rattle.std.proofs.lemmas.Option.{slice_get-get_or}
-use Rattle.basics.proofs.Bools.{first_of_both, second_of_both}
+use Rattle.std.proofs.Common.{◌≡◌, ℕ, ◌<◌, ◌⊎◌, inl, inr, true, false, List, length, ap, sym, ◌∙◌, arith, Option, Some}
+use Rattle.std.proofs.lemmas.Bool.{eqb-true, eq-eqb}
 use Rattle.spirv_model.specs.declared.module.Inst.{Inst}
 use Rattle.spirv_model.specs.declared.module.Words.{Words}
-use Rattle.spirv_model.specs.declared.class.Class.TheVariants as class
 use Rattle.spirv_model.specs.declared.op.TheConstants as op
-use Rattle.spirv_model.specs.Operands.{word_at, class_of, ids, result}
+use Rattle.spirv_model.specs.Operands.{word_at, class_of, ids}
 use Rattle.body_model.specs.Switches.{is_among}
 use Rattle.valid_model.specs.declared.meaning.Meaning.{Meaning}
 use Rattle.valid_model.specs.declared.meaning.Meaning.TheVariants.{Shape as OfShape}
-use Rattle.valid_model.specs.Definitions.{definition, inst_at, no_instruction, id_out_of_bound}
+use Rattle.valid_model.specs.Definitions.{definition, inst_at}
 use Rattle.valid_model.specs.Meanings.{meaning}
-use Rattle.check_model.specs.OperandTypes.{is_pointer, incoming_fits, operands_fit}
-use Rattle.check_model.specs.Typing.{typing_of, type_id, meaning_of, type_of, has_type}
+use Rattle.check_model.specs.Typing.{typing_of, type_id, meaning_of, type_of}
 use Rattle.check_model.specs.Validity.{IsValidList}
 use Rattle.check_model.specs.Visibility.{Incoming, incoming, uses_operands, used_ids}
 use Rattle.stage_model.proofs.StageRuns.{nowhere}
-use Rattle.typed_model.proofs.BlockLists.{label_behind_next}
 use Rattle.typed_model.proofs.BlockParts.{BlockPart, a_label, a_phi, a_variable, a_selection_merge, a_loop_merge, a_plain_one, a_terminator}
-use Rattle.typed_model.proofs.EffectsRun.{instruction}
 use Rattle.typed_model.proofs.FunctionRuns.{part_at, function_within}
 use Rattle.typed_model.proofs.PlainRuns.{at_op}
-use Rattle.typed_model.proofs.TypeLayouts.{word_is}
-use Rattle.typed_model.proofs.ValidModules.{valid_sound}
 use Rattle.typed_model.proofs.ValidTypes.{defined_within}
 use Rattle.change_model.specs.declared.fate.Fate.TheVariants.{Stays}
-use Rattle.change_model.specs.Plans.{Plan, block_at}
+use Rattle.change_model.specs.Plans.{Plan}
 use Rattle.change_model.specs.PlanRules.{merge_labels, is_shape}
 use Rattle.change_model.proofs.BlockBefore.{given_some, block_before}
 use Rattle.change_model.proofs.BlockIds.{Names, InPairs, label_names, selection_names, loop_names, end_names, phi_words}
 use Rattle.change_model.proofs.ConditionNames.{target_names, merge_names}
-use Rattle.change_model.proofs.ConstantsSound.{keeps_all}
 use Rattle.change_model.proofs.FoundNames.{taken_by}
 use Rattle.change_model.proofs.FoundResolved.{label_result}
 use Rattle.change_model.proofs.FoundUnnamed.{plain_uses, variable_uses}
-use Rattle.change_model.proofs.FoundUses.{label_inside, stands_inside}
 use Rattle.change_model.proofs.LeftLeaves.{names_in}
 use Rattle.change_model.proofs.LeftScopes.{is_label_at, label_at, names}
 use Rattle.change_model.proofs.NamedIds.{ids_are}
-use Rattle.change_model.proofs.NamedTypes.{fit_as, phi_class}
 use Rattle.change_model.proofs.PairTypes.{pair_typed}
 use Rattle.change_model.proofs.PhiPairsLeft.{In, in_blocks}
 use Rattle.change_model.proofs.PlanRunsRenamed.{operands_used}
 use Rattle.change_model.proofs.PlanRunsValues.{own_defined, result_at}
 use Rattle.change_model.proofs.PredecessorsLeft.{phi_names}
-use Rattle.change_model.proofs.ResultsAmongIds.{true_of_result}
 use Rattle.change_model.proofs.TakenOperands.{clash, is_taken_type, is_object}
 use Rattle.change_model.proofs.TakenUses.{IsPointedTo, IsMisfit, misfit_used}
 use Rattle.change_model.proofs.TypesNamed.{means}

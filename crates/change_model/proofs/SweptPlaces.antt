@@ -1,5 +1,5 @@
 -- Where the instructions of a swept function stand: each is one that stays, and each of these stands at a place of its own.
-use Rattle.std.proofs.Common.{◌≡◌, ℕ, zero, suc, ◌+◌, ◌-◌, ◌<◌, ◌≤◌, ◌==◌, ◌||◌, ◌⊎◌, inl, inr, Bool, true, false, if◌then◌else◌, List, [], ◌∷◌, ◌++◌, length, filter, refl, ap, sym, ◌∙◌, arith, slice_get, Some}
+use Rattle.std.proofs.Common.{◌≡◌, ℕ, zero, suc, ◌+◌, ◌-◌, ◌<◌, ◌≤◌, ◌||◌, ◌⊎◌, inl, inr, Bool, true, false, if◌then◌else◌, List, [], ◌∷◌, length, filter, refl, ap, sym, ◌∙◌, arith, slice_get, Some}
 use Rattle.std.specs.List.{list_any, range_with_len}
 use Rattle.std.proofs.lemmas.Bool.{cases_lt, eq-eqb}
 use Rattle.std.proofs.lemmas.Option.{get_or_from_slice_get}
@@ -25,7 +25,7 @@ use Rattle.change_model.proofs.ChangedDecorated.{any_there}
 use Rattle.change_model.proofs.ChangedDefinitions.{same_there}
 use Rattle.change_model.proofs.ChangedPlaces.{place_left, new_constants, written_before, function_within, place_behind, level_there, rises_behind, kept_there, StoodAt, of_level, of_constant, of_function, stood_at}
 use Rattle.change_model.proofs.FoldedKeeps.{function_op}
-use Rattle.change_model.proofs.FunctionPlaces.{Among, any_among}
+use Rattle.change_model.proofs.FunctionPlaces.{any_among}
 use Rattle.change_model.proofs.MovedUp.{level_inst, function_is}
 use Rattle.change_model.proofs.Pieces.{got_within, pieces}
 use Rattle.change_model.proofs.SweptWritten.{swept_written, swept_constants, no_pieces}

@@ -1,53 +1,43 @@
 -- What is swept names no variable of the module's level that nobody reads.
-use Rattle.std.proofs.Common.{◌≡◌, ℕ, ◌+◌, ◌<◌, ◌≤◌, ◌⊎◌, inl, inr, Bool, true, false, not, ◌==◌, ◌||◌, ◌&&◌, if◌then◌else◌, List, [], ◌∷◌, length, refl, ap, sym, ◌∙◌, arith, Option, None, Some}
+use Rattle.std.proofs.Common.{◌≡◌, ℕ, ◌<◌, inl, inr, Bool, true, false, not, ◌==◌, ◌||◌, List, length, refl, ap, sym, ◌∙◌, arith, Option, Some}
 use Rattle.std.specs.List.{list_all}
 use Rattle.std.specs.Option.{option_map}
 use Rattle.std.proofs.lemmas.Bool.{cases_lt, eqb-true, eq-eqb}
 use Rattle.spirv_model.specs.declared.module.Inst.{Inst}
 use Rattle.spirv_model.specs.declared.module.Words.{Words}
 use Rattle.spirv_model.specs.declared.op.TheConstants as op
-use Rattle.spirv_model.specs.Operands.{word_at, words_from, class_of, ids, result}
+use Rattle.spirv_model.specs.Operands.{word_at, words_from, ids}
 use Rattle.body_model.specs.Classes.{is_plain}
 use Rattle.body_model.specs.Switches.{is_among}
-use Rattle.valid_model.specs.declared.meaning.IdFacts.{IdFacts}
 use Rattle.valid_model.specs.declared.meaning.Meaning.{Meaning}
 use Rattle.valid_model.specs.declared.meaning.Meaning.TheVariants.{Shape as OfShape, Variable, Value as OfValue}
 use Rattle.valid_model.specs.declared.meaning.Shape.TheVariants.{Pointer}
 use Rattle.valid_model.specs.Definitions.{definition, inst_at}
-use Rattle.valid_model.specs.Meanings.{is_constant, known_before, meaning}
+use Rattle.valid_model.specs.Meanings.{known_before, meaning}
 use Rattle.valid_model.specs.Shapes.{pointee_id}
-use Rattle.valid_model.specs.Types.{is_type}
 use Rattle.check_model.specs.declared.components.Part.{Part}
 use Rattle.check_model.specs.declared.components.Part.TheVariants as part
 use Rattle.check_model.specs.MemoryOperands.{is_pointer_to, chain_along, chain_fits}
-use Rattle.check_model.specs.OperandTypes.{operands_fit}
 use Rattle.check_model.specs.Storage.{is_in_function}
-use Rattle.check_model.specs.Typing.{Typing, typing_of, type_id, meaning_of, type_of}
+use Rattle.check_model.specs.Typing.{Typing, typing_of, type_id, meaning_of}
 use Rattle.check_model.specs.Validity.{IsValidList}
-use Rattle.stage_model.specs.Effect.{has_result_class}
 use Rattle.stage_model.specs.Program.{program_of}
-use Rattle.typed_model.proofs.EffectsRun.{instruction}
-use Rattle.typed_model.proofs.FunctionRuns.{function_within}
 use Rattle.typed_model.proofs.ModuleValues.{meaning_at}
 use Rattle.typed_model.proofs.PlainRuns.{at_op}
-use Rattle.typed_model.proofs.ResultIds.{typed_result_id}
-use Rattle.typed_model.proofs.ValidModules.{valid_sound}
 use Rattle.typed_model.proofs.ValidTypes.{valid_types, makes_variable, MakesVariable}
 use Rattle.unit_model.specs.ConstantScalars.{function_places}
 use Rattle.change_model.specs.declared.fate.Fate.TheVariants.{Stays}
 use Rattle.change_model.specs.Plans.{Plan, changed}
 use Rattle.change_model.specs.PlanRules.{root_of}
-use Rattle.change_model.specs.Sweeping.{is_sweepable, IsUsedBy, IsSwept}
+use Rattle.change_model.specs.Sweeping.{is_sweepable, IsSwept}
 use Rattle.change_model.proofs.BehindLevel.{end_op}
+use Rattle.change_model.proofs.ChainsGiven.{chain_gives, chain_here, no_value_chain, chain_result, chain_defined, chain_meaning}
 use Rattle.change_model.proofs.FoundUnnamed.{end_ids}
-use Rattle.change_model.proofs.FoundUnused.{chain_gives, chain_fit, chain_rooted}
 use Rattle.change_model.proofs.FoundUses.{load_inside, store_inside, chain_inside, stands_inside}
-use Rattle.change_model.proofs.FunctionKnown.{function_known, plain_facts}
 use Rattle.change_model.proofs.FunctionPlaces.{all_filtered}
-use Rattle.change_model.proofs.PlanRunsRooted.{own_root}
-use Rattle.change_model.proofs.PlanRunsValues.{own_defined}
+use Rattle.change_model.proofs.PlanRunsRooted.{chain_root, own_root}
 use Rattle.change_model.proofs.PointersNamed.{IsPointer, pointer_named}
-use Rattle.change_model.proofs.SweptPlaces.{SweptFrom, new_behind, swept_from}
+use Rattle.change_model.proofs.SweptPlaces.{new_behind, swept_from}
 use Rattle.change_model.proofs.TakenOperands.{clash, is_taken_type, is_object}
 use Rattle.change_model.proofs.TakenUses.{IsPointedTo, loaded, stored, based}
 use Rattle.change_model.proofs.TypesNamed.{means}
@@ -75,51 +65,21 @@ module _ (words : Words) (v : IsValidList words) where
   abbrev insts : List Inst
   insts = words.insts
 
-  chain_here : (place : ℕ) → (inst_at words.insts place).op ≡ op.ACCESS_CHAIN
-      → chain_fits (typing_of words.insts) (word_at 0 (inst_at words.insts place)) ((typing_of words.insts).meaning (word_at 2 (inst_at words.insts place))) (words_from 3 (inst_at words.insts place)) ≡ true
-  chain_here place is =
+  chain_pointer : (place : ℕ) → v.derivation.before < place → place < v.derivation.after → (inst_at words.insts place).op ≡ op.ACCESS_CHAIN → IsPointer words.insts (word_at 1 (inst_at words.insts place))
+  chain_pointer place low high is =
       let typing = typing_of insts in
       let chain = inst_at insts place in
-      let w = stands_inside words v place op.ACCESS_CHAIN chain_inside is in
-      at_op (λ (i : Inst). operands_fit typing i ≡ true → chain_fits typing (word_at 0 i) (typing.meaning (word_at 2 i)) (words_from 3 i) ≡ true) chain op.ACCESS_CHAIN (eq-eqb chain.op op.ACCESS_CHAIN is) (chain_fit typing chain.words)
-      ((valid_sound words v).fit place (function_within insts v.derivation place w.1))
-
-  no_value_chain : (place id type : ℕ) → (inst_at words.insts place).op ≡ op.ACCESS_CHAIN → word_at 2 (inst_at words.insts place) ≡ id → meaning words.insts id ≡ OfValue type → ⊥
-  no_value_chain place id type is at value =
-      let typing = typing_of insts in
-      let chain = inst_at insts place in
-      clash (chain_fits typing (word_at 0 chain) (typing.meaning (word_at 2 chain)) (words_from 3 chain)) (chain_here place is)
-      (ap (λ (m : Meaning). chain_fits typing (word_at 0 chain) m (words_from 3 chain)) (ap typing.meaning at ∙ means insts id ∙ value))
-
-  module _ (place : ℕ) (low : v.derivation.before < place) (high : place < v.derivation.after) (is : (inst_at words.insts place).op ≡ op.ACCESS_CHAIN) where
-    abbrev chain : Inst
-    chain = inst_at words.insts place
-
-    chain_result : result (inst_at words.insts place) ≡ Some (word_at 1 (inst_at words.insts place))
-    chain_result = typed_result_id chain (ap (λ (o : ℕ). has_result_class (class_of o)) is ∙ chain_gives.0) (ap (λ (o : ℕ). o == op.STORE) is)
-
-    chain_defined : definition words.insts (word_at 1 (inst_at words.insts place)) ≡ Some place
-    chain_defined = own_defined words v place (word_at 1 chain) (function_within insts v.derivation place high) chain_result
-
-    chain_meaning : meaning words.insts (word_at 1 (inst_at words.insts place)) ≡ OfValue (word_at 0 (inst_at words.insts place))
-    chain_meaning =
-        meaning_at insts place (word_at 1 chain) chain_defined
-        ∙ ap (λ (k : IdFacts). k.meaning)
-        (function_known (known_before insts place) chain (ap is_type is ∙ chain_gives.2) (ap is_constant is ∙ chain_gives.3) ∙ plain_facts chain (ap is_plain is ∙ chain_gives.1))
-
-    chain_pointer : IsPointer words.insts (word_at 1 (inst_at words.insts place))
-    chain_pointer =
-        let typing = typing_of insts in
-        record {
-          misfit = record {
-            value = ap is_object chain_meaning;
-            apart = ap (λ (m : Meaning). is_taken_type (meaning_of typing (type_id m))) (means insts (word_at 1 chain) ∙ chain_meaning)
-                ∙ chain_apart typing (word_at 0 chain) (typing.meaning (word_at 2 chain)) (words_from 3 chain) (chain_here place is);
-          };
-          at = place;
-          defined = chain_defined;
-          no_label = ap (λ (o : ℕ). o == op.LABEL) is;
-        }
+      let value = chain_meaning words v place high is in
+      record {
+        misfit = record {
+          value = ap is_object value;
+          apart = ap (λ (m : Meaning). is_taken_type (meaning_of typing (type_id m))) (means insts (word_at 1 chain) ∙ value)
+              ∙ chain_apart typing (word_at 0 chain) (typing.meaning (word_at 2 chain)) (words_from 3 chain) (chain_here words v place is);
+        };
+        at = place;
+        defined = chain_defined words v place high is;
+        no_label = ap (λ (o : ℕ). o == op.LABEL) is;
+      }
 
   -- ---- a variable is a pointer
 
@@ -172,13 +132,13 @@ module _ (is_unread : ℕ → Bool) (words : Words) (v : IsValidList words) (pla
       let inst = inst_at words.insts place in
       let own = word_at 1 inst in
       let w = stands_inside words v place op.ACCESS_CHAIN chain_inside leads in
-      let gives = chain_result words v place w.0 w.1 leads in
+      let gives = chain_result words.insts place leads in
       let sweepable : is_sweepable inst.op ≡ true = by_plain (is_plain inst.op) (inst.op == op.PHI) (inst.op == op.VARIABLE) (ap is_plain leads ∙ chain_gives.1) in
       let u = s.used place own w.0 w.1 stays sweepable gives in
-      let root = chain_rooted words.insts own place (chain_defined words v place w.0 w.1 leads) leads ∙ base in
+      let root = chain_root words.insts own place (chain_defined words v place w.1 leads) (eq-eqb inst.op op.ACCESS_CHAIN leads) ∙ base in
       elim (pointer_named words v own (chain_pointer words v place w.0 w.1 leads) u.other u.low u.high (s.typed u.other u.low u.high u.stays) u.names) [
         | inl same ↦ clash (u.other == place) (eq-eqb u.other place same) u.another
-        | inr pointed ↦ by_use u.other u.stays own root (chain_meaning words v place w.0 w.1 leads) pointed
+        | inr pointed ↦ by_use u.other u.stays own root (chain_meaning words v place w.1 leads) pointed
       ]
     where
       by_use : (other : ℕ) → plan.fate other ≡ Stays → (own : ℕ) → root_of words.insts own ≡ id → {type : ℕ} → meaning words.insts own ≡ OfValue type → IsPointedTo (inst_at words.insts other) own → ⊥

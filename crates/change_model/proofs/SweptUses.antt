@@ -1,11 +1,11 @@
 -- Each result of a swept function is used.
-use Rattle.std.proofs.Common.{◌≡◌, ℕ, ◌+◌, ◌<◌, ◌≤◌, ◌==◌, ◌&&◌, ◌||◌, inl, inr, Bool, true, false, not, List, length, refl, ap, sym, ◌∙◌, arith, Option, None, Some}
+use Rattle.std.proofs.Common.{◌≡◌, ℕ, ◌<◌, ◌==◌, ◌&&◌, ◌||◌, inl, inr, Bool, true, false, not, List, length, refl, ap, sym, ◌∙◌, arith, Option, None, Some}
 use Rattle.std.proofs.lemmas.Bool.{cases_lt, eq-eqb, eqb-true}
 use Rattle.spirv_model.specs.declared.module.Inst.{Inst}
 use Rattle.spirv_model.specs.declared.module.Words.{Words}
 use Rattle.spirv_model.specs.declared.op.TheConstants as op
-use Rattle.spirv_model.specs.Operands.{class_of, entry_of, ids, result}
-use Rattle.body_model.specs.Classes.{is_plain, is_terminator}
+use Rattle.spirv_model.specs.Operands.{entry_of, ids, result}
+use Rattle.body_model.specs.Classes.{is_plain}
 use Rattle.body_model.specs.Switches.{is_among}
 use Rattle.valid_model.specs.Definitions.{inst_at}
 use Rattle.check_model.specs.Storage.{is_in_function}
@@ -22,7 +22,7 @@ use Rattle.change_model.proofs.BehindLevel.{end_op}
 use Rattle.change_model.proofs.ChangedPlaces.{place_left}
 use Rattle.change_model.proofs.FunctionKnown.{selection_merge_result, loop_merge_result}
 use Rattle.change_model.proofs.FunctionPlaces.{all_filtered}
-use Rattle.change_model.proofs.SweptPlaces.{any_function_place, SweptFrom, SweptTo, swept_apart, new_behind, swept_from, swept_to}
+use Rattle.change_model.proofs.SweptPlaces.{any_function_place, SweptFrom, swept_apart, new_behind, swept_from, swept_to}
 
 none_some : (found : Option ℕ) (id : ℕ) → found ≡ None → found ≡ Some id → ⊥
 none_some found id none some = cc

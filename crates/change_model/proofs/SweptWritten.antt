@@ -1,5 +1,5 @@
 -- What is swept writes the instructions that stay as they are, and no constants.
-use Rattle.std.proofs.Common.{◌≡◌, ℕ, zero, suc, ◌+◌, ◌-◌, ◌<◌, ◌≤◌, ◌==◌, ◌%◌, ◌||◌, ◌⊎◌, inl, inr, Bool, true, false, if◌then◌else◌, List, [], ◌∷◌, ◌++◌, length, map, filter, take, drop, refl, ap, sym, ◌∙◌, subst, arith, Option, None, Some, is_some}
+use Rattle.std.proofs.Common.{◌≡◌, ℕ, zero, suc, ◌+◌, ◌-◌, ◌<◌, ◌==◌, ◌%◌, ◌||◌, ◌⊎◌, inl, inr, Bool, true, false, if◌then◌else◌, List, [], ◌∷◌, ◌++◌, length, map, filter, take, drop, refl, ap, sym, ◌∙◌, arith, Option, None, Some, is_some}
 use Rattle.std.specs.List.{flat_map, range_with_len}
 use Rattle.std.specs.Option.{option_map}
 use Rattle.std.proofs.lemmas.Bool.{eq-eqb, eqb-true}
@@ -20,7 +20,7 @@ use Rattle.typed_model.proofs.ValidModules.{valid_sound}
 use Rattle.change_model.specs.declared.fate.Fate.{Fate}
 use Rattle.change_model.specs.declared.fate.Fate.TheVariants.{Stays, Unused}
 use Rattle.change_model.specs.Folding.{function_at}
-use Rattle.change_model.specs.Plans.{Plan, targets_left, leads_from, predecessors_left, block_at, renamed_words, renamed_by, pairs_left, phi_left, kept_at, written_as, written_at, constant_as, constant_at, later_places, changed}
+use Rattle.change_model.specs.Plans.{Plan, targets_left, leads_from, predecessors_left, block_at, renamed_words, renamed_by, pairs_left, phi_left, kept_at, written_at, constant_as, constant_at, later_places, changed}
 use Rattle.change_model.specs.PlanRules.{stays}
 use Rattle.change_model.specs.Sweeping.{IsSwept}
 use Rattle.change_model.proofs.ChangedPlaces.{function_within}
