@@ -274,3 +274,7 @@ pub mod DroppedFacts
 pub mod DroppedEntries
 pub mod DroppedTypes
 pub mod DroppedConstants
+pub mod DroppedWritable
+pub mod FunctionBehind
+pub mod DroppedFunction
+pub mod SeenBehind
