@@ -1,9 +1,9 @@
 -- Constants fit their types as before where variables and constants are dropped.
-use Rattle.std.proofs.Common.{◌≡◌, ℕ, ◌==◌, ◌&&◌, ◌||◌, Bool, true, false, not, if◌then◌else◌, List, [], ◌∷◌, length, refl, ap, sym, ◌∙◌, Option, None, Some}
-use Rattle.std.specs.List.{list_any, list_all, zip}
+use Rattle.std.proofs.Common.{◌≡◌, ℕ, ◌==◌, ◌&&◌, ◌||◌, Bool, true, false, not, List, [], ◌∷◌, length, refl, ap, ◌∙◌, Option, None, Some}
+use Rattle.std.specs.List.{list_any, list_all}
 use Rattle.spirv_model.specs.declared.class.Class.{Class}
 use Rattle.spirv_model.specs.declared.class.Class.TheVariants.{Scalar}
-use Rattle.spirv_model.specs.declared.class.ScalarClass.TheVariants.{WordFromWord, WordFromWords, TruthFromWords, TruthFromTruth, TruthFromTruths, Select}
+use Rattle.spirv_model.specs.declared.class.ScalarClass.TheVariants.{WordFromWord, WordFromWords, TruthFromWords, TruthFromTruth, TruthFromTruths}
 use Rattle.spirv_model.specs.declared.module.Inst.{Inst}
 use Rattle.spirv_model.specs.declared.module.Words.{Words}
 use Rattle.spirv_model.specs.declared.op.TheConstants as op
@@ -13,15 +13,14 @@ use Rattle.valid_model.specs.declared.meaning.Meaning.{Meaning}
 use Rattle.valid_model.specs.declared.meaning.Meaning.TheVariants.{Absent, Shape as OfShape, Constant, Variable, Value as OfValue, Label, Other}
 use Rattle.valid_model.specs.declared.meaning.Shape.{Shape}
 use Rattle.valid_model.specs.declared.meaning.Shape.TheVariants.{Void, Bool as Truth, Int, BoolVector, IntVector, Array, Struct, Pointer, Function}
-use Rattle.valid_model.specs.Constants.{is_integer_like, are_truths, are_words_like, are_constants_of, are_constants_of_each, are_members, are_parts, composite_fits, constant_fits, breaks_constants}
+use Rattle.valid_model.specs.Constants.{is_integer_like, are_constants_of_each, are_parts, composite_fits, constant_fits, breaks_constants}
 use Rattle.valid_model.specs.Definitions.{inst_at}
 use Rattle.valid_model.specs.FirstFault.{bad_constant}
 use Rattle.valid_model.specs.Knowledge.{Knowledge, is_bool, is_integer, is_data, is_constant_of, type_of_constant, constant_type, meaning_in}
 use Rattle.valid_model.specs.Meanings.{is_constant, known_before}
-use Rattle.valid_model.specs.Operations.{unary_fits, binary_fits, unary_operation_fits, binary_operation_fits, is_select, select_fits, operation_fits}
+use Rattle.valid_model.specs.Operations.{unary_fits, binary_fits, is_select, select_fits, operation_fits}
 use Rattle.check_model.specs.Validity.{IsValidList}
 use Rattle.change_model.specs.Dropping.{entry_without, dropped, MayDrop}
-use Rattle.change_model.proofs.ChangedShapes.{shape_in}
 use Rattle.change_model.proofs.DroppedMeanings.{known_without, NoTypes, without_kept, without_told, tells_data, either_way, none_goes_before, names_stay, known_dropped_before}
 use Rattle.change_model.proofs.DroppedPlaces.{DroppedPlace, entry_op, entry_same}
 use Rattle.change_model.proofs.SameFacts.{TellsTypes}

@@ -1,27 +1,17 @@
 -- Decorations of ids that stay are the same where variables and constants of the module's level are dropped, and those of ids that go are gone.
-use Rattle.std.proofs.Common.{◌≡◌, ℕ, ◌==◌, ◌&&◌, ◌||◌, Bool, true, false, cond, if◌then◌else◌, List, [], ◌∷◌, length, refl, ap, sym, ◌∙◌, Option, None, Some}
-use Rattle.std.proofs.Math.Path.{fun_ext}
-use Rattle.std.specs.Prelude.{is_some}
+use Rattle.std.proofs.Common.{◌≡◌, ℕ, ◌==◌, ◌&&◌, ◌||◌, Bool, true, false, cond, List, [], ◌∷◌, length, refl, ap, sym, ◌∙◌, Option, None, Some}
 use Rattle.std.specs.Option.{option_map}
 use Rattle.std.specs.List.{find, list_any}
 use Rattle.spirv_model.specs.declared.module.Inst.{Inst}
-use Rattle.spirv_model.specs.declared.module.Words.{Words}
 use Rattle.spirv_model.specs.declared.op.TheConstants as op
-use Rattle.spirv_model.specs.Operands.{word_at, entry_of, result, kinds, kinds_from}
-use Rattle.valid_model.specs.declared.meaning.Meaning.{Meaning}
-use Rattle.valid_model.specs.DecorationWords.{is_listed, is_decorate, is_offset, decorates, decoration_of, places_member, offset_of}
-use Rattle.valid_model.specs.Definitions.{inst_at, definition}
-use Rattle.valid_model.specs.Meanings.{meaning}
-use Rattle.valid_model.specs.ModuleFacts.{ModuleFacts, facts_of, is_entry, model_of, opcode_at, opcode_of}
-use Rattle.check_model.specs.Validity.{IsValidList}
+use Rattle.spirv_model.specs.Operands.{word_at}
+use Rattle.valid_model.specs.DecorationWords.{is_listed, decorates, decoration_of, places_member, offset_of}
 use Rattle.typed_model.proofs.BlockParts.{clash, another}
-use Rattle.change_model.specs.Dropping.{is_gone, is_decoration, is_dropped, words_left, entry_without, dropped, MayDrop}
-use Rattle.change_model.proofs.ChangedShapes.{shape_in, SaySame}
+use Rattle.change_model.specs.Dropping.{is_gone, is_decoration, is_dropped, entry_without, dropped}
 use Rattle.change_model.proofs.DroppedDefinitions.{decoration_silent}
-use Rattle.change_model.proofs.DroppedMeanings.{shapes_dropped}
-use Rattle.change_model.proofs.DroppedPlaces.{entry_same, entry_op, result_stays, target_stays}
+use Rattle.change_model.proofs.DroppedPlaces.{entry_same, entry_op}
 use Rattle.change_model.proofs.Settlings.{op_is}
-use Rattle.change_model.proofs.Sifted.{sifted, sifted_cons, sifted_gone, IsSiftedTest, any_sifted, find_sifted}
+use Rattle.change_model.proofs.Sifted.{sifted, sifted_cons, sifted_gone, any_sifted, find_sifted}
 
 -- ---- tests of instructions with another opcode than that of an entry point
 

@@ -1,5 +1,5 @@
 -- Which instruction defines an id, where variables and constants of the module's level are dropped.
-use Rattle.std.proofs.Common.{◌≡◌, ℕ, suc, ◌<◌, ◌≤◌, ◌==◌, ◌&&◌, ◌||◌, Bool, true, false, if◌then◌else◌, List, length, take, refl, ap, sym, ◌∙◌, subst, arith, Option, None, Some}
+use Rattle.std.proofs.Common.{◌≡◌, ℕ, ◌<◌, ◌==◌, ◌&&◌, ◌||◌, Bool, true, false, if◌then◌else◌, List, length, take, refl, ap, sym, ◌∙◌, Option, None, Some}
 use Rattle.std.specs.Option.{option_map}
 use Rattle.std.specs.List.{list_any}
 use Rattle.spirv_model.specs.declared.module.Inst.{Inst}
@@ -12,7 +12,7 @@ use Rattle.change_model.specs.Dropping.{is_gone, is_decoration, is_dropped, entr
 use Rattle.change_model.proofs.DroppedPlaces.{dropped_left, DroppedPlace, result_stays, result_left}
 use Rattle.change_model.proofs.SettledPlaces.{earlier_is, long_enough}
 use Rattle.change_model.proofs.Settlings.{op_is}
-use Rattle.change_model.proofs.Sifted.{sifted, IsSiftedTest, any_sifted, definition_sifted, definition_lost}
+use Rattle.change_model.proofs.Sifted.{IsSiftedTest, any_sifted, definition_sifted, definition_lost}
 
 -- ---- tests for an id
 

@@ -1,5 +1,5 @@
 -- What an entry point is without the ids of its interface that go.
-use Rattle.std.proofs.Common.{◌≡◌, ℕ, zero, suc, ◌<◌, ◌≤◌, ◌==◌, ◌&&◌, ◌||◌, inl, inr, Bool, true, false, not, cond, nat_lt, if◌then◌else◌, List, [], ◌∷◌, ◌++◌, map, length, take, drop, replicate, slice_index, refl, ap, sym, ◌∙◌, subst, arith, take-append-drop, Option, None, Some}
+use Rattle.std.proofs.Common.{◌≡◌, ℕ, zero, suc, ◌<◌, ◌≤◌, ◌==◌, ◌&&◌, ◌||◌, Bool, true, false, not, cond, nat_lt, if◌then◌else◌, List, [], ◌∷◌, ◌++◌, map, length, take, drop, replicate, slice_index, refl, ap, sym, ◌∙◌, subst, arith, take-append-drop, Option, None, Some}
 use Rattle.std.specs.Prelude.{filter, is_some}
 use Rattle.std.specs.Option.{option_map, option_or}
 use Rattle.std.specs.List.{find, list_all}
@@ -18,13 +18,11 @@ use Rattle.body_model.specs.Classes.{is_module_level}
 use Rattle.body_model.proofs.ModuleLevels.{within_list}
 use Rattle.valid_model.specs.Definitions.{inst_at, id_out_of_bound}
 use Rattle.valid_model.specs.ModuleFacts.{is_entry, is_word}
-use Rattle.check_model.specs.declared.fault.CheckFault.{CheckFault}
 use Rattle.check_model.specs.declared.fault.CheckFault.TheVariants as fault
-use Rattle.check_model.specs.EntryPoints.{entry_points, is_op_function, function_id, is_shader_entry, is_one_entry, bad_entry_count}
-use Rattle.check_model.specs.Intervals.{intervals_of}
+use Rattle.check_model.specs.EntryPoints.{entry_points, is_op_function, function_id, is_one_entry, bad_entry_count}
 use Rattle.check_model.specs.Validity.{list_fault, IsValidList}
 use Rattle.typed_model.proofs.BlockParts.{another, clash}
-use Rattle.change_model.specs.Dropping.{is_gone, is_dropped, words_without, words_left, entry_without, dropped, MayDrop}
+use Rattle.change_model.specs.Dropping.{is_gone, words_without, words_left, entry_without, MayDrop}
 use Rattle.change_model.proofs.DroppedPlaces.{function_stays, result_stays}
 use Rattle.change_model.proofs.FoldedKeeps.{function_op}
 use Rattle.change_model.proofs.LevelFinds.{find_first}

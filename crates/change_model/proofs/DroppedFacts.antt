@@ -13,7 +13,7 @@ use Rattle.spirv_model.specs.declared.storage_class.TheConstants as storage_clas
 use Rattle.spirv_model.specs.declared.table.Operand.{Operand}
 use Rattle.spirv_model.specs.declared.table.Operand.TheVariants.{IdRef, LiteralInteger, LiteralString}
 use Rattle.spirv_model.specs.declared.table.Rest.TheVariants.{IdRefs}
-use Rattle.spirv_model.specs.Operands.{word_at, entry_of, kinds, kinds_from, result}
+use Rattle.spirv_model.specs.Operands.{word_at, entry_of, kinds, kinds_from}
 use Rattle.valid_model.specs.declared.meaning.Meaning.{Meaning}
 use Rattle.valid_model.specs.declared.meaning.Meaning.TheVariants.{Absent, Shape as OfShape, Constant, Variable, Value as OfValue, Label, Other}
 use Rattle.valid_model.specs.declared.meaning.Shape.{Shape}
@@ -24,21 +24,21 @@ use Rattle.valid_model.specs.DecorationWords.{decoration_of, offset_of}
 use Rattle.valid_model.specs.Definitions.{definition, inst_at}
 use Rattle.valid_model.specs.EarlierFacts.{EarlierFacts}
 use Rattle.valid_model.specs.Meanings.{meaning}
-use Rattle.valid_model.specs.ModuleFacts.{ModuleFacts, facts_of, is_entry, is_word, model_of, opcode_at, opcode_of, is_decorated, has_position}
+use Rattle.valid_model.specs.ModuleFacts.{ModuleFacts, facts_of, is_entry, is_word, model_of, opcode_at, opcode_of, is_decorated}
 use Rattle.valid_model.specs.Shapes.{is_array, is_integers, pointee_id, held_type}
 use Rattle.valid_model.specs.Variables.{lacks_place, bad_interface, bad_location, bad_slot, bad_uniform, bad_push, second_position, bad_variable}
 use Rattle.check_model.specs.Validity.{IsValidList}
-use Rattle.typed_model.proofs.BlockParts.{another, clash}
+use Rattle.typed_model.proofs.BlockParts.{clash}
 use Rattle.typed_model.proofs.ValidTypes.{defined_within}
 use Rattle.change_model.specs.Dropping.{is_gone, is_decoration, is_dropped, words_left, entry_without, dropped, MayDrop}
 use Rattle.change_model.proofs.ChangedShapes.{shape_in, SaySame}
 use Rattle.change_model.proofs.DroppedDecorations.{decoration_kept, decoration_gone, offset_kept, offset_gone}
-use Rattle.change_model.proofs.DroppedDefinitions.{definition_kept, definition_gone, definition_stays}
-use Rattle.change_model.proofs.DroppedMeanings.{meaning_kept, meaning_gone, shapes_dropped, none_goes}
+use Rattle.change_model.proofs.DroppedDefinitions.{definition_kept, definition_stays}
+use Rattle.change_model.proofs.DroppedMeanings.{shapes_dropped, none_goes}
 use Rattle.change_model.proofs.DroppedPlaces.{dropped_left, kept_place, entry_op, entry_same, entry_silent}
 use Rattle.change_model.proofs.SameFacts.{TellsTypes, same_told}
 use Rattle.change_model.proofs.Settlings.{op_is}
-use Rattle.change_model.proofs.Sifted.{IsSiftedTest, find_sifted}
+use Rattle.change_model.proofs.Sifted.{find_sifted}
 
 -- ---- entry points
 

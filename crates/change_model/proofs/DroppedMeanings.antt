@@ -1,7 +1,7 @@
 -- What ids mean where variables and constants of the module's level are dropped.
-use Rattle.std.proofs.Common.{◌≡◌, ℕ, zero, suc, ◌+◌, ◌<◌, ◌≤◌, ◌==◌, ◌&&◌, ◌||◌, Bool, true, false, not, nat_lt, nat_le, if◌then◌else◌, List, [], ◌∷◌, length, take, drop, refl, ap, sym, ◌∙◌, subst, arith, Option, None, Some}
+use Rattle.std.proofs.Common.{◌≡◌, ℕ, suc, ◌+◌, ◌<◌, ◌≤◌, ◌==◌, ◌&&◌, ◌||◌, Bool, true, false, nat_le, if◌then◌else◌, List, [], ◌∷◌, length, take, refl, ap, sym, ◌∙◌, subst, arith, Option, None, Some}
 use Rattle.std.proofs.Math.Path.{fun_ext}
-use Rattle.std.specs.Prelude.{is_none, is_some}
+use Rattle.std.specs.Prelude.{is_none}
 use Rattle.std.specs.Option.{option_map, unwrap_or}
 use Rattle.std.specs.List.{fold, list_any, list_all, sum_by}
 use Rattle.std.proofs.lemmas.List.{get_or-take, length-take-le, take_all}
@@ -14,23 +14,23 @@ use Rattle.valid_model.specs.declared.meaning.IdFacts.{IdFacts}
 use Rattle.valid_model.specs.declared.meaning.Meaning.{Meaning}
 use Rattle.valid_model.specs.declared.meaning.Meaning.TheVariants.{Absent, Shape as OfShape, Constant, Variable, Value as OfValue, Label, Other}
 use Rattle.valid_model.specs.declared.meaning.Shape.{Shape}
-use Rattle.valid_model.specs.declared.meaning.Shape.TheVariants.{Array, Struct}
+use Rattle.valid_model.specs.declared.meaning.Shape.TheVariants.{Struct}
 use Rattle.valid_model.specs.Definitions.{has_result, gives, inst_at, no_instruction}
 use Rattle.valid_model.specs.Knowledge.{Knowledge, a_type, is_data, is_void, meaning_in, size_in, length_in, means, nothing_known}
-use Rattle.valid_model.specs.Types.{is_type, constant_length, array_length, vector_shape, vector_type, array_type, struct_size, struct_type, pointer_type, function_type, type_of}
-use Rattle.valid_model.specs.Meanings.{is_constant, constant_known, variable_meaning, other_meaning, known_of, known_after, known_by, known_before, meaning}
+use Rattle.valid_model.specs.Types.{is_type, constant_length, vector_shape, vector_type, array_type, struct_type, pointer_type, function_type, type_of}
+use Rattle.valid_model.specs.Meanings.{is_constant, constant_known, known_of, known_after, known_by, known_before, meaning}
 use Rattle.valid_model.proofs.KnownIds.{known_stays}
 use Rattle.check_model.specs.Validity.{IsValidList}
 use Rattle.typed_model.proofs.BlockParts.{clash}
 use Rattle.typed_model.proofs.ValidModules.{valid_sound}
-use Rattle.change_model.specs.Dropping.{is_gone, is_dropped, entry_without, dropped, dropped_words, MayDrop}
+use Rattle.change_model.specs.Dropping.{is_dropped, entry_without, dropped, MayDrop}
 use Rattle.change_model.specs.PlanRules.{is_shape}
 use Rattle.change_model.proofs.ChangedShapes.{shape_in}
 use Rattle.change_model.proofs.DroppedDefinitions.{gives_kept, gives_no_gone}
-use Rattle.change_model.proofs.DroppedPlaces.{DroppedPlace, entry_same, entry_silent, entry_op}
+use Rattle.change_model.proofs.DroppedPlaces.{DroppedPlace, entry_same, entry_silent}
 use Rattle.change_model.proofs.SameFacts.{TellsTypes, same_told}
 use Rattle.change_model.proofs.SettledRules.{take_take}
-use Rattle.change_model.proofs.Sifted.{sifted, sifted_cons, sifted_gone}
+use Rattle.change_model.proofs.Sifted.{sifted_cons, sifted_gone}
 use Rattle.change_model.proofs.StayingWords.{Stays, array_stays, struct_stays}
 
 -- ---- knowledge without what goes

@@ -1,24 +1,22 @@
 -- Which place of the old list a place of the new one is, where variables and constants of the module's level are dropped; the function
 -- stands as it was.
-use Rattle.std.proofs.Common.{◌≡◌, ℕ, ◌+◌, ◌<◌, ◌≤◌, ◌==◌, ◌&&◌, ◌||◌, inl, inr, Bool, true, false, if◌then◌else◌, List, length, take, drop, get_or, ◌++◌, refl, ap, sym, ◌∙◌, subst, arith, length-append, length-drop, take-append-drop, Option, None, Some}
+use Rattle.std.proofs.Common.{◌≡◌, ℕ, ◌+◌, ◌<◌, ◌≤◌, ◌==◌, ◌&&◌, ◌||◌, Bool, true, false, if◌then◌else◌, List, length, take, drop, get_or, ◌++◌, refl, ap, sym, ◌∙◌, subst, arith, length-append, length-drop, take-append-drop, Option, None, Some}
 use Rattle.std.proofs.lemmas.List.{drop_at, get_or-drop, get_or-take, length-take-le}
 use Rattle.std.proofs.Math.Seq.{take-add}
 use Rattle.spirv_model.specs.declared.module.Inst.{Inst}
 use Rattle.spirv_model.specs.declared.module.Words.{Words}
 use Rattle.spirv_model.specs.declared.op.TheConstants as op
-use Rattle.spirv_model.specs.declared.class.Class.{Class}
 use Rattle.spirv_model.specs.Operands.{word_at, class_of, entry_of, result, kinds}
 use Rattle.body_model.specs.Grammar.{Derives}
 use Rattle.body_model.proofs.ModuleLevels.{within_list}
-use Rattle.valid_model.specs.Definitions.{has_result, gives, definition, inst_at, no_instruction}
+use Rattle.valid_model.specs.Definitions.{inst_at, no_instruction}
 use Rattle.check_model.specs.Validity.{IsValidList}
-use Rattle.typed_model.proofs.BlockParts.{clash}
 use Rattle.typed_model.proofs.ModuleValues.{defined_at}
 use Rattle.typed_model.proofs.ValidTypes.{keeps_rules}
-use Rattle.change_model.specs.Dropping.{is_gone, is_decoration, is_dropped, words_left, entry_without, dropped, dropped_words, IsOfLevel, MayDrop}
+use Rattle.change_model.specs.Dropping.{is_gone, is_decoration, is_dropped, words_left, entry_without, dropped, MayDrop}
 use Rattle.change_model.proofs.BehindLevel.{is_setting_class, setting_fails, fails_old, no_setting, are_settings}
 use Rattle.change_model.proofs.Settlings.{op_is}
-use Rattle.change_model.proofs.Sifted.{sifted, sifted_append, sifted_same, IsSiftedTest, PlaceIn, place_in, place_rises, NewPlace, new_place}
+use Rattle.change_model.proofs.Sifted.{sifted_append, sifted_same, place_in, place_rises, new_place}
 
 -- ---- places
 

@@ -1,5 +1,5 @@
 -- Types are allowed as before where variables and constants are dropped.
-use Rattle.std.proofs.Common.{◌≡◌, ℕ, ◌<◌, ◌≤◌, ◌==◌, ◌&&◌, ◌||◌, inl, inr, Bool, true, false, not, nat_lt, if◌then◌else◌, List, length, refl, ap, sym, ◌∙◌, subst, arith, le-ltb, Option, None, Some}
+use Rattle.std.proofs.Common.{◌≡◌, ℕ, ◌<◌, ◌==◌, ◌&&◌, ◌||◌, inl, inr, Bool, true, false, not, nat_lt, List, length, refl, ap, sym, ◌∙◌, arith, le-ltb, Option, None, Some}
 use Rattle.std.specs.Prelude.{is_none}
 use Rattle.std.specs.Option.{option_map}
 use Rattle.std.proofs.lemmas.Bool.{cases_lt, lt-ltb}
@@ -7,17 +7,15 @@ use Rattle.spirv_model.specs.declared.module.Inst.{Inst}
 use Rattle.spirv_model.specs.declared.module.Words.{Words}
 use Rattle.spirv_model.specs.declared.op.TheConstants as op
 use Rattle.spirv_model.specs.Operands.{word_at, entry_of, class_of}
-use Rattle.valid_model.specs.declared.meaning.IdFacts.{IdFacts}
-use Rattle.valid_model.specs.declared.meaning.Meaning.{Meaning}
 use Rattle.valid_model.specs.Definitions.{inst_at, definition}
-use Rattle.valid_model.specs.Knowledge.{Knowledge, is_void, meaning_in}
+use Rattle.valid_model.specs.Knowledge.{Knowledge, is_void}
 use Rattle.valid_model.specs.Meanings.{known_before}
-use Rattle.valid_model.specs.Types.{is_type, is_pointer_of, is_function, type_of, breaks_types, result_type, is_type_after, is_later_type, has_later_type}
+use Rattle.valid_model.specs.Types.{is_type, is_pointer_of, is_function, breaks_types, result_type, is_type_after, is_later_type, has_later_type}
 use Rattle.valid_model.specs.FirstFault.{bad_type}
 use Rattle.check_model.specs.Validity.{IsValidList}
 use Rattle.typed_model.proofs.ValidTypes.{defined_within}
-use Rattle.change_model.specs.Dropping.{is_dropped, entry_without, dropped, MayDrop}
-use Rattle.change_model.proofs.DroppedDefinitions.{defined_at_left, definition_gone, definition_stays, definition_kept}
+use Rattle.change_model.specs.Dropping.{entry_without, dropped, MayDrop}
+use Rattle.change_model.proofs.DroppedDefinitions.{definition_gone, definition_stays, definition_kept}
 use Rattle.change_model.proofs.DroppedMeanings.{known_without, NoTypes, without_told, tells_void, either_way, type_stays, none_goes_before, names_stay, known_dropped_before}
 use Rattle.change_model.proofs.DroppedPlaces.{dropped_left, DroppedPlace, dropped_to, dropped_rises, kept_place, entry_op, entry_same}
 use Rattle.change_model.proofs.SameFacts.{TellsTypes}

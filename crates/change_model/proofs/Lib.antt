@@ -71,6 +71,7 @@ pub mod SettledRules
 pub mod SettledUses
 pub mod SettledValues
 pub mod SettledVisible
+pub mod Sifted
 pub mod Settlings
 pub mod LeftBlocks
 pub mod LeftCode
@@ -264,7 +265,6 @@ pub mod SpecializedLeft
 pub mod ConstantsSpecialized
 pub mod Rounds
 pub mod FoundWhole
-pub mod Sifted
 pub mod DroppedPlaces
 pub mod DroppedDefinitions
 pub mod StayingWords
@@ -278,3 +278,5 @@ pub mod DroppedWritable
 pub mod FunctionBehind
 pub mod DroppedFunction
 pub mod SeenBehind
+pub mod DroppedJudged
+pub mod DroppedSound

@@ -26,6 +26,7 @@ use Rattle.typed_model.proofs.ValidFunctions.{front_of}
 use Rattle.change_model.specs.Constants.{is_spec_id}
 use Rattle.change_model.specs.Settling.{is_spec_class, StandsFor, same, settles, all_settled}
 use Rattle.change_model.proofs.SameFunction.{HaveSameFunction}
+use Rattle.change_model.proofs.Sifted.{sifted_same, sifted_append}
 use Rattle.change_model.proofs.Settlings.{Settles, IsOther, kept_by_op, any_settled, settled_cons, settled_gone, op_is}
 
 -- ---- instructions that stay
@@ -107,22 +108,11 @@ pub stays_kept : (inst : Inst) → Stays inst.op → is_spec_id inst ≡ false
 stays_kept inst s = ap (λ (b : Bool). b && (word_at 1 inst == SPEC_ID)) s.no_decorate
 
 pub unchanged : (f : Inst → Inst) → Settles f → (insts : List Inst) → ((k : ℕ) → k < length insts → Stays (inst_at insts k).op) → all_settled f insts ≡ insts
-unchanged f s [] stay = refl
-unchanged f s (inst ∷ insts) stay =
-    let here = stay 0 (omega arith) in
-    settled_cons f inst insts (stays_kept inst here)
-    ∙ ap (λ (i : Inst). i ∷ all_settled f insts) (stays_same (f inst) inst (s inst) here)
-    ∙ ap (λ (l : List Inst). inst ∷ l) (unchanged f s insts (λ k within. stay (suc k) (omega (arith, within))))
+unchanged f s insts stay =
+    sifted_same is_spec_id f insts (λ k within. stays_kept (inst_at insts k) (stay k within)) (λ k within. stays_same (f (inst_at insts k)) (inst_at insts k) (s (inst_at insts k)) (stay k within))
 
 pub settled_append : (f : Inst → Inst) (xs ys : List Inst) → all_settled f (xs ++ ys) ≡ all_settled f xs ++ all_settled f ys
-settled_append f [] ys = refl
-settled_append f (x ∷ xs) ys = by_test (settled_append f xs ys) (is_spec_id x) refl
-  where
-    by_test : all_settled f (xs ++ ys) ≡ all_settled f xs ++ all_settled f ys → (b : Bool) → is_spec_id x ≡ b → all_settled f (x ∷ (xs ++ ys)) ≡ all_settled f (x ∷ xs) ++ all_settled f ys
-    by_test rest true is = settled_gone f x (xs ++ ys) is ∙ rest ∙ ap (λ (l : List Inst). l ++ all_settled f ys) (sym (settled_gone f x xs is))
-    by_test rest false isnt =
-        settled_cons f x (xs ++ ys) isnt ∙ ap (λ (l : List Inst). f x ∷ l) rest
-        ∙ ap (λ (l : List Inst). l ++ all_settled f ys) (sym (settled_cons f x xs isnt))
+settled_append f xs ys = sifted_append is_spec_id f xs ys
 
 -- ---- the function
 

@@ -8,48 +8,14 @@ use Rattle.spirv_model.specs.Operands.{result}
 use Rattle.valid_model.specs.Definitions.{gives, inst_at, definition, is_earlier, twice_by, id_twice}
 use Rattle.change_model.specs.Constants.{is_spec_id}
 use Rattle.change_model.specs.Settling.{all_settled}
+use Rattle.change_model.proofs.Sifted.{PlaceIn, place_in}
 use Rattle.change_model.proofs.Settlings.{Settles, IsKeptTest, any_settled, settled_cons, settled_gone, result_same, gives_same, gone_gives}
 
-pub record PlaceOf (f : Inst → Inst) (insts : List Inst) (place : ℕ) : Type 0 where
-  pub old : ℕ
-  pub within : old < length insts
-  pub stays : is_spec_id (inst_at insts old) ≡ false
-  pub front : take place (all_settled f insts) ≡ all_settled f (take old insts)
-  pub inst : inst_at (all_settled f insts) place ≡ f (inst_at insts old)
+abbrev pub PlaceOf : (Inst → Inst) → List Inst → ℕ → Type 0
+PlaceOf f insts place = PlaceIn is_spec_id f insts place
 
 pub place_of : (f : Inst → Inst) (insts : List Inst) (place : ℕ) → place < length (all_settled f insts) → PlaceOf f insts place
-place_of f [] place within = absurd (omega (arith, within))
-place_of f (inst ∷ insts) place within = by_test (place_of f insts) (is_spec_id inst) refl place within
-  where
-    by_test : ((place : ℕ) → place < length (all_settled f insts) → PlaceOf f insts place) → (b : Bool) → is_spec_id inst ≡ b → (place : ℕ) → place < length (all_settled f (inst ∷ insts)) → PlaceOf f (inst ∷ insts) place
-    by_test rest true is place within =
-        let e = settled_gone f inst insts is in
-        let r = rest place (subst (λ (l : List Inst). place < length l) e within) in
-        record {
-          old = suc r.old;
-          within = let w = r.within in omega (arith, w);
-          stays = r.stays;
-          front = ap (take place) e ∙ r.front ∙ sym (settled_gone f inst (take r.old insts) is);
-          inst = ap (λ (l : List Inst). inst_at l place) e ∙ r.inst;
-        }
-    by_test rest false isnt zero within = record {
-      old = 0;
-      within = omega arith;
-      stays = isnt;
-      front = refl;
-      inst = ap (λ (l : List Inst). inst_at l 0) (settled_cons f inst insts isnt);
-    }
-    by_test rest false isnt (suc place) within =
-        let e = settled_cons f inst insts isnt in
-        let longer : suc place < length (f inst ∷ all_settled f insts) = subst (λ (l : List Inst). suc place < length l) e within in
-        let r = rest place (omega (arith, longer)) in
-        record {
-          old = suc r.old;
-          within = let w = r.within in omega (arith, w);
-          stays = r.stays;
-          front = ap (take (suc place)) e ∙ ap (λ (l : List Inst). f inst ∷ l) r.front ∙ sym (settled_cons f inst (take r.old insts) isnt);
-          inst = ap (λ (l : List Inst). inst_at l (suc place)) e ∙ r.inst;
-        }
+place_of f insts place within = place_in is_spec_id f insts place within
 
 -- ---- what is defined before a place
 

@@ -16,6 +16,7 @@ use Rattle.typed_model.proofs.BlockParts.{another, clash}
 use Rattle.typed_model.proofs.ResultIds.{defines, defined_id, setting_result}
 use Rattle.change_model.specs.Constants.{is_spec_id}
 use Rattle.change_model.specs.Settling.{is_spec_class, is_plain_constant_class, StandsFor, same, settles, all_settled}
+use Rattle.change_model.proofs.Sifted.{sifted_cons, sifted_gone, IsSiftedTest, any_sifted, find_sifted}
 
 -- f gives what stands for each instruction
 abbrev pub Settles : (Inst → Inst) → Type 0
@@ -102,40 +103,21 @@ gone_gives id inst is =
 
 -- one more instruction
 pub settled_cons : (f : Inst → Inst) (inst : Inst) (insts : List Inst) → is_spec_id inst ≡ false → all_settled f (inst ∷ insts) ≡ f inst ∷ all_settled f insts
-settled_cons f inst insts isnt = ap (λ (b : Bool). map f (cond (not b) (inst ∷ filter (λ (i : Inst). not (is_spec_id i)) insts) (filter (λ (i : Inst). not (is_spec_id i)) insts))) isnt
+settled_cons f inst insts isnt = sifted_cons is_spec_id f inst insts isnt
 
 pub settled_gone : (f : Inst → Inst) (inst : Inst) (insts : List Inst) → is_spec_id inst ≡ true → all_settled f (inst ∷ insts) ≡ all_settled f insts
-settled_gone f inst insts is = ap (λ (b : Bool). map f (cond (not b) (inst ∷ filter (λ (i : Inst). not (is_spec_id i)) insts) (filter (λ (i : Inst). not (is_spec_id i)) insts))) is
+settled_gone f inst insts is = sifted_gone is_spec_id f inst insts is
 
 -- a test that says the same of what stands for an instruction, and doesn't pass for what is gone
-pub record IsKeptTest (f : Inst → Inst) (p q : Inst → Bool) : Type 0 where
-  pub kept : (inst : Inst) → is_spec_id inst ≡ false → q (f inst) ≡ p inst
-  pub gone : (inst : Inst) → is_spec_id inst ≡ true → p inst ≡ false
+abbrev pub IsKeptTest : (Inst → Inst) → (Inst → Bool) → (Inst → Bool) → Type 0
+IsKeptTest f p q = IsSiftedTest is_spec_id f p q
 
 pub any_settled : (f : Inst → Inst) (p q : Inst → Bool) → IsKeptTest f p q → (insts : List Inst) → list_any q (all_settled f insts) ≡ list_any p insts
-any_settled f p q t [] = refl
-any_settled f p q t (inst ∷ insts) = by_test (any_settled f p q t insts) (is_spec_id inst) refl
-  where
-    by_test : list_any q (all_settled f insts) ≡ list_any p insts → (b : Bool) → is_spec_id inst ≡ b → list_any q (all_settled f (inst ∷ insts)) ≡ (p inst || list_any p insts)
-    by_test rest true is = ap (list_any q) (settled_gone f inst insts is) ∙ rest ∙ ap (λ (b : Bool). b || list_any p insts) (sym (t.gone inst is))
-    by_test rest false is =
-        ap (list_any q) (settled_cons f inst insts is) ∙ ap (λ (b : Bool). b || list_any q (all_settled f insts)) (t.kept inst is)
-        ∙ ap (λ (b : Bool). p inst || b) rest
+any_settled f p q t insts = any_sifted is_spec_id f p q t insts
 
 -- what is found is what stands for it
 pub find_settled : (f : Inst → Inst) (p q : Inst → Bool) → IsKeptTest f p q → (insts : List Inst) → find q (all_settled f insts) ≡ option_map f (find p insts)
-find_settled f p q t [] = refl
-find_settled f p q t (inst ∷ insts) = by_test (find_settled f p q t insts) (is_spec_id inst) refl
-  where
-    here : find q (all_settled f insts) ≡ option_map f (find p insts) → (b : Bool) → cond b (Some (f inst)) (find q (all_settled f insts)) ≡ option_map f (cond b (Some inst) (find p insts))
-    here rest true = refl
-    here rest false = rest
-
-    by_test : find q (all_settled f insts) ≡ option_map f (find p insts) → (b : Bool) → is_spec_id inst ≡ b → find q (all_settled f (inst ∷ insts)) ≡ option_map f (cond (p inst) (Some inst) (find p insts))
-    by_test rest true is =
-        ap (find q) (settled_gone f inst insts is) ∙ rest ∙ ap (λ (b : Bool). option_map f (cond b (Some inst) (find p insts))) (sym (t.gone inst is))
-    by_test rest false is =
-        ap (find q) (settled_cons f inst insts is) ∙ ap (λ (b : Bool). cond b (Some (f inst)) (find q (all_settled f insts))) (t.kept inst is) ∙ here rest (p inst)
+find_settled f p q t insts = find_sifted is_spec_id f p q t insts
 
 -- an instruction of a kind of its own is found as it is
 pub same_found : (f : Inst → Inst) → Settles f → (own : ℕ) → IsOther own → (p : Inst → Bool) → ((inst : Inst) → inst.op == own ≡ false → p inst ≡ false) → (insts : List Inst) → option_map f (find p insts) ≡ find p insts

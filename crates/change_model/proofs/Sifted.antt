@@ -53,6 +53,18 @@ any_sifted goes f p q t (inst ∷ insts) = by_test (any_sifted goes f p q t inst
         ap (list_any q) (sifted_cons goes f inst insts is) ∙ ap (λ (b : Bool). b || list_any q (sifted goes f insts)) (t.kept inst is)
         ∙ ap (λ (b : Bool). p inst || b) rest
 
+-- where none passed before, none passes then
+pub none_sifted : (goes : Inst → Bool) (f : Inst → Inst) (p q : Inst → Bool) → ((inst : Inst) → goes inst ≡ false → p inst ≡ false → q (f inst) ≡ false) → (insts : List Inst)
+    → list_any p insts ≡ false → list_any q (sifted goes f insts) ≡ false
+none_sifted goes f p q less [] none = refl
+none_sifted goes f p q less (inst ∷ insts) none = by_tests (goes inst) (p inst) refl refl none (none_sifted goes f p q less insts)
+  where
+    by_tests : (a b : Bool) → goes inst ≡ a → p inst ≡ b → (b || list_any p insts) ≡ false → (list_any p insts ≡ false → list_any q (sifted goes f insts) ≡ false) → list_any q (sifted goes f (inst ∷ insts)) ≡ false
+    by_tests a true is so none rest = cc
+    by_tests true false is so none rest = ap (list_any q) (sifted_gone goes f inst insts is) ∙ rest none
+    by_tests false false is so none rest =
+        ap (list_any q) (sifted_cons goes f inst insts is) ∙ ap (λ (b : Bool). b || list_any q (sifted goes f insts)) (less inst is so) ∙ rest none
+
 -- what is found is what stands for it
 pub find_sifted : (goes : Inst → Bool) (f : Inst → Inst) (p q : Inst → Bool) → IsSiftedTest goes f p q → (insts : List Inst) → find q (sifted goes f insts) ≡ option_map f (find p insts)
 find_sifted goes f p q t [] = refl

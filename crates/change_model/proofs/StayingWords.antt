@@ -1,10 +1,9 @@
 -- Words of an instruction that don't go, where none of its ids does.
-use Rattle.std.proofs.Common.{◌≡◌, ℕ, ◌==◌, ◌||◌, Bool, true, false, List, [], ◌∷◌, map, drop, slice_index, refl, ap, sym, ◌∙◌, subst}
+use Rattle.std.proofs.Common.{◌≡◌, ℕ, ◌==◌, ◌||◌, Bool, true, false, List, [], ◌∷◌, map, drop, slice_index, refl, ap, sym, ◌∙◌}
 use Rattle.std.specs.Prelude.{is_some}
 use Rattle.std.specs.List.{list_any}
 use Rattle.spirv_model.specs.declared.module.Inst.{Inst}
 use Rattle.spirv_model.specs.declared.op.TheConstants as op
-use Rattle.spirv_model.specs.declared.table.Operand.{Operand}
 use Rattle.spirv_model.specs.declared.table.Operand.TheVariants.{IdRef}
 use Rattle.spirv_model.specs.Operands.{word_at, words_from, entry_of, kinds, ids_among, ids}
 use Rattle.change_model.proofs.Settlings.{op_is}
