@@ -77,10 +77,10 @@ entries_same f s insts =
 no_variable_at : (facts : ModuleFacts) (storage location : ℕ) (inst : Inst) → inst.op == op.VARIABLE ≡ false → is_variable_at facts storage location inst ≡ false
 no_variable_at facts storage location inst isnt = rw isnt refl
 
-flat_by : ModuleFacts → List Inst → Option ℕ
+pub flat_by : ModuleFacts → List Inst → Option ℕ
 flat_by facts insts = if is_vertex facts then None else lowest_location (has_smooth_input facts insts)
 
-flat_is : (insts : List Inst) → not_flat insts ≡ flat_by (hidden (facts_of insts)) insts
+pub flat_is : (insts : List Inst) → not_flat insts ≡ flat_by (hidden (facts_of insts)) insts
 unfolding not_flat flat_by hidden
 flat_is insts = refl
 
@@ -96,10 +96,10 @@ flat_same f s words sound =
     ∙ ap (λ (t : ℕ → Bool). if is_vertex (hidden (facts_of insts)) then None else lowest_location t) (smooth_same f s (hidden (facts_of insts)) insts)
     ∙ sym (flat_is insts)
 
-twice_by : ModuleFacts → List Inst → Option ℕ
+pub twice_by : ModuleFacts → List Inst → Option ℕ
 twice_by facts insts = lowest_location (λ location. are_two facts insts storage_class.INPUT location || are_two facts insts storage_class.OUTPUT location)
 
-twice_is : (insts : List Inst) → location_twice insts ≡ twice_by (hidden (facts_of insts)) insts
+pub twice_is : (insts : List Inst) → location_twice insts ≡ twice_by (hidden (facts_of insts)) insts
 unfolding location_twice twice_by hidden
 twice_is insts = refl
 
@@ -161,7 +161,7 @@ pub record NoUseFault (intervals : List Interval) (insts : List Inst) (place : �
   pub operands : has_bad_operands insts place ≡ false
   pub storage : has_wrong_storage insts place ≡ false
 
-no_use_fault : (intervals : List Interval) (insts : List Inst) (place : ℕ) → use_fault_at intervals insts place ≡ None → NoUseFault intervals insts place
+pub no_use_fault : (intervals : List Interval) (insts : List Inst) (place : ℕ) → use_fault_at intervals insts place ≡ None → NoUseFault intervals insts place
 unfolding use_fault_at
 no_use_fault intervals insts place is = by_cases (not_visible intervals insts place) (has_bad_operands insts place) (has_wrong_storage insts place) refl refl refl is
   where
@@ -179,7 +179,7 @@ none_of_both : (a b : Option CheckFault) → option_or a b ≡ None → (a ≡ N
 none_of_both None b is = (refl, is)
 none_of_both (Some reason) b is = cc
 
-no_first : (fault_at : ℕ → Option CheckFault) (n place : ℕ) → first_use_fault fault_at n ≡ None → place < n → fault_at place ≡ None
+pub no_first : (fault_at : ℕ → Option CheckFault) (n place : ℕ) → first_use_fault fault_at n ≡ None → place < n → fault_at place ≡ None
 no_first fault_at zero place none less = absurd (omega arith)
 no_first fault_at (suc n) place none less =
     let e = none_of_both (first_use_fault fault_at n) (fault_at n) none in

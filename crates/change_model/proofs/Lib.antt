@@ -290,6 +290,10 @@ pub mod DroppedFacts
 pub mod DroppedEntries
 pub mod DroppedTypes
 pub mod DroppedConstants
+pub mod DroppedWritable
+pub mod FunctionBehind
+pub mod DroppedFunction
+pub mod SeenBehind
 pub mod DroppedJudged
 pub mod DroppedSound
 pub mod DroppedWritten

@@ -57,7 +57,7 @@ ends_same : (new old : Inst) → StandsFor new old → is_terminator new.op ≡ 
 ends_same new old (same is) = ap (λ (i : Inst). is_terminator i.op) is
 ends_same new old (settles spec constant type id) = constant_ends (class_of new.op) constant ∙ sym (spec_ends (class_of old.op) spec)
 
-old_level : (insts : List Inst) (d : Derives insts) (k : ℕ) → k < first_of insts d → is_terminator (inst_at insts k).op ≡ false
+pub old_level : (insts : List Inst) (d : Derives insts) (k : ℕ) → k < first_of insts d → is_terminator (inst_at insts k).op ≡ false
 old_level insts d k less = level_op_ends (inst_at insts k).op ((front_of (record { insts = insts; bound = 0 }) d).level k less)
 
 new_level : (f : Inst → Inst) → Settles f → (insts : List Inst) (d : Derives insts) (k : ℕ) → k < settled_first f insts d → is_terminator (inst_at (all_settled f insts) k).op ≡ false
@@ -130,13 +130,13 @@ label_settled f s (inst ∷ insts) label = by_test (label_settled f s insts) (is
 
 -- ---- phis
 
-with_phi : (intervals : List Interval) (insts : List Inst) (place : ℕ) → (inst_at insts place).op == op.PHI ≡ true
+pub with_phi : (intervals : List Interval) (insts : List Inst) (place : ℕ) → (inst_at insts place).op == op.PHI ≡ true
     → not_visible intervals insts place ≡ (if not (names_predecessors insts place) then Some (word_at 1 (inst_at insts place))
     else option_map (λ (u : Use). u.id) (find (λ u. not (is_visible_use intervals insts u)) (phi_uses insts place (inst_at insts place))))
 unfolding not_visible uses_at
 with_phi intervals insts place is = rw is refl
 
-names_by : (insts : List Inst) (place : ℕ) → names_predecessors insts place ≡ are_those (incoming_blocks (inst_at insts place)) (predecessors insts (label_behind 0 (take place insts)))
+pub names_by : (insts : List Inst) (place : ℕ) → names_predecessors insts place ≡ are_those (incoming_blocks (inst_at insts place)) (predecessors insts (label_behind 0 (take place insts)))
 unfolding names_predecessors
 names_by insts place = refl
 

@@ -111,7 +111,7 @@ level_for : (inst for : Inst) → StandsFor inst for → IsTrue (is_module_level
 level_for inst for (same is) level = subst (λ (i : Inst). IsTrue (is_module_level i.op)) (sym is) level
 level_for inst for (settles spec constant type id) level = constant_level (class_of inst.op) constant
 
-abbrev IsLevel : Inst → Type 0
+abbrev pub IsLevel : Inst → Type 0
 IsLevel inst = IsTrue (is_module_level inst.op)
 
 level_settled : (f : Inst → Inst) → Settles f → (insts : List Inst) → All IsLevel insts → All IsLevel (all_settled f insts)
@@ -192,7 +192,7 @@ begins_settled f s insts d =
 abbrev pub settled_after : (Inst → Inst) → (insts : List Inst) → Derives insts → ℕ
 settled_after f insts d = settled_before f insts d + 1 + (d.after - (d.before + 1))
 
-code_long : (insts : List Inst) (d : Derives insts) → length (printed (code_of d.sequence)) ≡ d.after - (d.before + 1)
+pub code_long : (insts : List Inst) (d : Derives insts) → length (printed (code_of d.sequence)) ≡ d.after - (d.before + 1)
 code_long insts d =
     let b = forward insts d.sequence in
     ap length (listed insts d.sequence) ∙ slice_long insts (d.before + 1) d.after (let w = b.within in omega (arith, w))

@@ -74,7 +74,7 @@ never_zero n = grind (arith, nat_tests)
 less_too : (a b : ℕ) → nat_lt (suc a) (suc b) ≡ nat_lt a b
 less_too a b = grind (arith, nat_tests)
 
-definition_behind : (insts : List Inst) (n id : ℕ) → n ≤ length insts → is_earlier (definition insts id) n ≡ false → definition insts id ≡ option_map (λ (k : ℕ). n + k) (definition (drop n insts) id)
+pub definition_behind : (insts : List Inst) (n id : ℕ) → n ≤ length insts → is_earlier (definition insts id) n ≡ false → definition insts id ≡ option_map (λ (k : ℕ). n + k) (definition (drop n insts) id)
 unfolding definition
 definition_behind insts zero id within late = as_far (definition insts id)
 definition_behind [] (suc n) id within late = absurd (omega (arith, within))
@@ -92,11 +92,11 @@ definition_behind (inst ∷ insts) (suc n) id within late = by_test (gives id in
 
 -- ---- what is defined before the function
 
-kept_front : (insts : List Inst) (d : Derives insts) (a b : ℕ) → a < d.before + 1 → keeps (intervals_of d) a b ≡ true
+pub kept_front : (insts : List Inst) (d : Derives insts) (a b : ℕ) → a < d.before + 1 → keeps (intervals_of d) a b ≡ true
 kept_front insts d a b less = kept_outside (d.before + 1) d.after (intervals_of d) (lie_around (d.before + 1) d.after (inside d.sequence) (lies insts d.sequence)) a b (inl less)
 
 -- at a place up to the function's first label what is defined earlier is visible
-visible_front : (insts : List Inst) (d : Derives insts) (place : ℕ) → place ≤ d.before + 1 → (found : Option ℕ) → is_defined_for (intervals_of d) place found ≡ is_earlier found place
+pub visible_front : (insts : List Inst) (d : Derives insts) (place : ℕ) → place ≤ d.before + 1 → (found : Option ℕ) → is_defined_for (intervals_of d) place found ≡ is_earlier found place
 visible_front insts d place low None = refl
 visible_front insts d place low (Some at) = by_test (nat_lt at place) refl
   where
@@ -112,7 +112,7 @@ visible_front insts d place low (Some at) = by_test (nat_lt at place) refl
         unseen true is = absurd (never at place (seen (intervals_of d) at place is).0 isnt)
 
 -- what is defined before the function is visible in it
-seen_later : (insts : List Inst) (d : Derives insts) (place : ℕ) → d.before + 1 ≤ place → (found : Option ℕ) → is_earlier found (d.before + 1) ≡ true → is_defined_for (intervals_of d) place found ≡ true
+pub seen_later : (insts : List Inst) (d : Derives insts) (place : ℕ) → d.before + 1 ≤ place → (found : Option ℕ) → is_earlier found (d.before + 1) ≡ true → is_defined_for (intervals_of d) place found ≡ true
 seen_later insts d place low None early = cc
 seen_later insts d place low (Some at) early =
     let l = ltb-true at (d.before + 1) early in visible_by (intervals_of d) at place (omega (arith, l, low)) (kept_front insts d at place l)
@@ -252,7 +252,7 @@ no_level_phi : (is_module_level op.PHI || (op.PHI == op.FUNCTION)) ≡ false
 unfolding class_of entry_of
 no_level_phi = refl
 
-no_phi_front : (insts : List Inst) (d : Derives insts) (k : ℕ) → k < first_of insts d → (inst_at insts k).op == op.PHI ≡ false
+pub no_phi_front : (insts : List Inst) (d : Derives insts) (k : ℕ) → k < first_of insts d → (inst_at insts k).op == op.PHI ≡ false
 no_phi_front insts d k less = another (λ opcode. is_module_level opcode || (opcode == op.FUNCTION)) op.PHI no_level_phi (inst_at insts k).op ((front_of (record { insts = insts; bound = 0 }) d).level k less)
 
 pub without_phi : (intervals : List Interval) (insts : List Inst) (place : ℕ) → (inst_at insts place).op == op.PHI ≡ false
