@@ -297,3 +297,4 @@ pub mod SeenBehind
 pub mod DroppedJudged
 pub mod DroppedSound
 pub mod DroppedWritten
+pub mod PartReads

@@ -23,7 +23,7 @@ ends_right : (opcode : ℕ) → ending_by (class_of opcode) opcode ≡ true
 unfolding class_of entry_of
 ends_right opcode = in_rows (λ opcode entry. ending_by (class_in entry) opcode) (λ opcode. refl) ROWS opcode all_end
 
-terminator_of : (opcode : ℕ) (of : Option Class) → class_of opcode ≡ of → is_terminator opcode ≡ true → of ≡ Some class.Terminator
+pub terminator_of : (opcode : ℕ) (of : Option Class) → class_of opcode ≡ of → is_terminator opcode ≡ true → of ≡ Some class.Terminator
 terminator_of opcode (Some class.Terminator) is finish = refl
 terminator_of opcode (Some class.Setting) is finish = let e = ap is_terminator_class is in cc
 terminator_of opcode (Some class.TypeDeclaration) is finish = let e = ap is_terminator_class is in cc
