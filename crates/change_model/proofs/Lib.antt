@@ -278,3 +278,4 @@ pub mod DroppedConstants
 pub mod DroppedJudged
 pub mod DroppedSound
 pub mod DroppedWritten
+pub mod DroppedInterface
