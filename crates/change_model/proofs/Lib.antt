@@ -279,3 +279,4 @@ pub mod DroppedJudged
 pub mod DroppedSound
 pub mod DroppedWritten
 pub mod DroppedInterface
+pub mod DroppedLocations
