@@ -1,17 +1,12 @@
 -- The stage, the entry point and the locations of a module are as allowed where variables and constants are dropped.
-use Rattle.std.proofs.Common.{◌≡◌, ℕ, zero, suc, ◌<◌, ◌≤◌, ◌==◌, ◌&&◌, ◌||◌, inl, inr, Bool, true, false, not, cond, nat_le, if◌then◌else◌, List, [], ◌∷◌, map, length, take, slice_index, refl, ap, sym, ◌∙◌, subst, arith, Option, None, Some}
-use Rattle.std.specs.Prelude.{filter, is_some}
+use Rattle.std.proofs.Common.{◌≡◌, ℕ, ◌<◌, ◌==◌, ◌&&◌, ◌||◌, inl, inr, Bool, true, false, cond, if◌then◌else◌, List, [], ◌∷◌, map, length, slice_index, refl, ap, sym, ◌∙◌, arith, Option, None, Some}
+use Rattle.std.specs.Prelude.{filter}
 use Rattle.std.specs.Option.{option_map}
-use Rattle.std.specs.List.{find, list_any, range_with_len}
 use Rattle.std.proofs.lemmas.Bool.{cases_lt}
-use Rattle.std.proofs.lemmas.Bool.Decides.{nat_tests}
-use Rattle.limits.specs.declared.TheConstants.{LOCATIONS}
 use Rattle.spirv_model.specs.declared.module.Inst.{Inst}
 use Rattle.spirv_model.specs.declared.module.Words.{Words}
-use Rattle.spirv_model.specs.declared.decoration.TheConstants.{LOCATION, FLAT}
 use Rattle.spirv_model.specs.declared.execution_model.TheConstants.{VERTEX, FRAGMENT}
 use Rattle.spirv_model.specs.declared.op.TheConstants as op
-use Rattle.spirv_model.specs.declared.storage_class.TheConstants as storage_class
 use Rattle.spirv_model.specs.declared.table.Operand.{Operand}
 use Rattle.spirv_model.specs.declared.table.Operand.TheVariants.{IdRef, LiteralInteger, LiteralString}
 use Rattle.spirv_model.specs.declared.table.Rest.TheVariants.{IdRefs}
@@ -20,22 +15,21 @@ use Rattle.body_model.specs.Classes.{is_module_level}
 use Rattle.body_model.proofs.ClassFacts.{no_level_function}
 use Rattle.body_model.proofs.ModuleLevels.{within_list}
 use Rattle.valid_model.specs.Definitions.{inst_at}
-use Rattle.valid_model.specs.ModuleFacts.{ModuleFacts, facts_of, model_of, is_entry, is_word, is_vertex}
-use Rattle.check_model.specs.declared.stage.Stage.{Stage}
+use Rattle.valid_model.specs.ModuleFacts.{facts_of, model_of, is_entry, is_word, is_vertex}
 use Rattle.check_model.specs.declared.stage.Stage.TheVariants.{Vertex, Fragment}
-use Rattle.check_model.specs.EntryPoints.{entry_points, is_op_function, function_id, is_shader_entry, is_one_entry, bad_entry_count}
+use Rattle.check_model.specs.EntryPoints.{entry_points, is_op_function, function_id, is_one_entry, bad_entry_count}
 use Rattle.check_model.specs.Interfaces.{stage_of}
 use Rattle.check_model.specs.Validity.{IsValidList}
 use Rattle.typed_model.proofs.BlockParts.{another}
 use Rattle.change_model.specs.Dropping.{is_dropped, words_without, words_left, entry_without, dropped, MayDrop}
 use Rattle.change_model.proofs.DroppedEntries.{one_entry, function_found, function_id_stays}
-use Rattle.change_model.proofs.DroppedFacts.{entry_stays, stage_left, facts_dropped, model_dropped}
-use Rattle.change_model.proofs.DroppedPlaces.{dropped_left, dropped_before, DroppedPlace, dropped_place, dropped_to, dropped_rises, entry_op, entry_same, kept_place, function_stays, function_inst}
+use Rattle.change_model.proofs.DroppedFacts.{entry_stays, stage_left, model_dropped}
+use Rattle.change_model.proofs.DroppedPlaces.{dropped_before, DroppedPlace, dropped_place, dropped_to, dropped_rises, entry_op, entry_same, kept_place, function_stays}
 use Rattle.change_model.proofs.FoldedKeeps.{function_op}
 use Rattle.change_model.proofs.LevelFinds.{find_first}
 use Rattle.change_model.proofs.MovedUp.{level_inst}
 use Rattle.change_model.proofs.Settlings.{op_is}
-use Rattle.change_model.proofs.Sifted.{sifted, sifted_cons, sifted_gone, IsSiftedTest}
+use Rattle.change_model.proofs.Sifted.{sifted_cons, sifted_gone}
 
 -- ---- the stage
 
