@@ -1,13 +1,12 @@
 -- A module has no more words with constants for its specialization constants.
-use Rattle.std.proofs.Common.{◌≡◌, ℕ, suc, ◌+◌, ◌<◌, ◌≤◌, ◌==◌, ◌||◌, Bool, true, false, if◌then◌else◌, List, [], ◌∷◌, length, take, refl, ap, sym, ◌∙◌, subst, arith, length-append, Option, None, Some}
+use Rattle.std.proofs.Common.{◌≡◌, ℕ, suc, ◌≤◌, ◌==◌, ◌||◌, Bool, true, false, if◌then◌else◌, List, [], ◌∷◌, length, take, refl, ap, sym, ◌∙◌, subst, arith, Option, None, Some}
 use Rattle.std.specs.Prelude.{is_some}
 use Rattle.std.specs.Option.{unwrap_or}
-use Rattle.std.specs.List.{flat_map}
 use Rattle.spirv_model.specs.declared.module.Inst.{Inst}
 use Rattle.spirv_model.specs.declared.module.Words.{Words}
 use Rattle.spirv_model.specs.declared.op.TheConstants as op
 use Rattle.spirv_model.specs.Operands.{word_at, entry_of, kinds}
-use Rattle.spirv_model.specs.Module.{words_of, module_words}
+use Rattle.spirv_model.specs.Module.{module_words}
 use Rattle.state_model.specs.declared.parts.SpecValues.{SpecValues}
 use Rattle.valid_model.specs.Definitions.{inst_at}
 use Rattle.check_model.specs.Validity.{IsValidList}
@@ -16,7 +15,6 @@ use Rattle.stage_model.specs.Program.{Program, program_of}
 use Rattle.stage_model.specs.Start.{Values, constant_of, defined_by}
 use Rattle.typed_model.proofs.ValidModules.{valid_sound}
 use Rattle.change_model.specs.Constants.{is_spec_id, scalar_constant, is_spec_scalar, settled, constants}
-use Rattle.change_model.specs.Settling.{all_settled}
 use Rattle.change_model.proofs.Settlings.{op_is}
 use Rattle.change_model.proofs.SiftedWords.{sifted_shortens}
 use Rattle.change_model.proofs.SettledValues.{value_at_end}

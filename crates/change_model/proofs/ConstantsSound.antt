@@ -1,12 +1,9 @@
 -- Ids, types, constants and decorations are sound with constants for the specialization constants.
-use Rattle.std.proofs.Common.{◌≡◌, ℕ, zero, suc, ◌<◌, ◌≤◌, ◌&&◌, Bool, true, false, if◌then◌else◌, List, [], ◌∷◌, length, refl, ap, ◌∙◌, arith, Option, None, Some}
-use Rattle.std.specs.Prelude.{is_some}
+use Rattle.std.proofs.Common.{◌≡◌, ℕ, zero, suc, ◌<◌, ◌≤◌, Bool, true, false, if◌then◌else◌, length, refl, ap, ◌∙◌, arith, Option, None, Some}
 use Rattle.std.specs.Option.{option_or}
-use Rattle.std.specs.List.{list_all}
 use Rattle.spirv_model.specs.declared.module.Inst.{Inst}
 use Rattle.spirv_model.specs.declared.module.Words.{Words}
-use Rattle.spirv_model.specs.Operands.{kinds}
-use Rattle.spirv_model.specs.Module.{fits_table, IsWritable}
+use Rattle.spirv_model.specs.Module.{IsWritable}
 use Rattle.state_model.specs.declared.parts.SpecValues.{SpecValues}
 use Rattle.valid_model.specs.declared.type_fault.TypeFault.{TypeFault}
 use Rattle.valid_model.specs.declared.type_fault.TypeFault.TheVariants.{BadDecoration}
@@ -21,7 +18,6 @@ use Rattle.stage_model.specs.Start.{defined_by}
 use Rattle.typed_model.proofs.ValidModules.{valid_sound}
 use Rattle.typed_model.proofs.ValidTypes.{none_of_both, no_first, keeps_decorations}
 use Rattle.change_model.specs.Constants.{is_spec_id, settled, constants, with_constants}
-use Rattle.change_model.specs.Settling.{all_settled}
 use Rattle.change_model.proofs.ConstantsFit.{settled_well, settled_unbroken, value_fits_there}
 use Rattle.change_model.proofs.ConstantsShorten.{constants_shorten}
 use Rattle.change_model.proofs.ConstantsStand.{settled_stands}

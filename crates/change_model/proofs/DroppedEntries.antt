@@ -28,6 +28,7 @@ use Rattle.change_model.proofs.FoldedKeeps.{function_op}
 use Rattle.change_model.proofs.LevelFinds.{find_first}
 use Rattle.change_model.proofs.MovedUp.{level_inst}
 use Rattle.change_model.proofs.Settlings.{op_is}
+use Rattle.change_model.proofs.StayingWords.{all_refs}
 
 -- ---- texts
 
@@ -129,16 +130,12 @@ text_skipped : (text words : List ℕ) (found : List Operand) → ids_among (rep
 text_skipped [] words found = refl
 text_skipped (word ∷ text) words found = text_skipped text words found
 
-refs_all : (words : List ℕ) → ids_among (map (λ (_ : ℕ). IdRef) words) words ≡ words
-refs_all [] = refl
-refs_all (word ∷ words) = ap (λ (l : List ℕ). word ∷ l) (refs_all words)
-
 -- its ids are the function's and those of the interface
 pub entry_ids : (stage function : ℕ) (text interface : List ℕ) → IsText text → ids (entry_inst stage function text interface) ≡ function ∷ interface
 unfolding ids
 entry_ids stage function text interface is =
     ap (λ (o : Option (List Operand)). ids_by o (stage ∷ function ∷ (text ++ interface))) (entry_kinds stage function text interface is)
-    ∙ ap (λ (l : List ℕ). function ∷ l) (text_skipped text interface (map (λ _. IdRef) interface) ∙ refs_all interface)
+    ∙ ap (λ (l : List ℕ). function ∷ l) (text_skipped text interface (map (λ _. IdRef) interface) ∙ all_refs interface)
 
 -- ---- without ids that go
 
@@ -263,7 +260,7 @@ no_count : (o : Option ℕ) → option_map fault.EntryCount o ≡ None → o ≡
 no_count None h = refl
 no_count (Some n) h = cc
 
-one_entry : (words : Words) → IsValidList words → is_one_entry (function_id words.insts) (entry_points words.insts) ≡ true
+pub one_entry : (words : Words) → IsValidList words → is_one_entry (function_id words.insts) (entry_points words.insts) ≡ true
 unfolding list_fault bad_entry_count
 one_entry words v =
     passes (is_one_entry (function_id words.insts) (entry_points words.insts)) (no_count (bad_entry_count words.insts) (none_first (option_map fault.EntryCount (bad_entry_count words.insts)) _ v.faultless))

@@ -96,7 +96,7 @@ variable_stays gone inst stays is =
     sym (ap (is_gone gone) (ap (λ (o : ℕ). result (record { op = o; words = inst.words })) (op_is inst.op op.VARIABLE is) ∙ variable_result inst.words)) ∙ result_stays gone inst stays
 
 -- a test of variables that says the same of those that stay
-by_variable : (gone : ℕ → Bool) (p q : Inst → Bool) → OnlyOp op.VARIABLE p → OnlyOp op.VARIABLE q → ((inst : Inst) → gone (word_at 1 inst) ≡ false → q inst ≡ p inst)
+pub by_variable : (gone : ℕ → Bool) (p q : Inst → Bool) → OnlyOp op.VARIABLE p → OnlyOp op.VARIABLE q → ((inst : Inst) → gone (word_at 1 inst) ≡ false → q inst ≡ p inst)
     → (inst : Inst) → is_dropped gone inst ≡ false → p inst ≡ false → q (entry_without gone inst) ≡ false
 by_variable gone p q only also same inst stays fails = passes_left gone op.VARIABLE variable_other q also inst ∙ by_test (inst.op == op.VARIABLE) refl
   where

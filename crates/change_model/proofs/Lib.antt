@@ -298,3 +298,5 @@ pub mod DroppedJudged
 pub mod DroppedSound
 pub mod DroppedWritten
 pub mod PartReads
+pub mod DroppedInterface
+pub mod DroppedLocations

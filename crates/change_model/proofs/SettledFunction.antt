@@ -27,7 +27,7 @@ use Rattle.change_model.specs.Constants.{is_spec_id}
 use Rattle.change_model.specs.Settling.{is_spec_class, StandsFor, same, settles, all_settled}
 use Rattle.change_model.proofs.SameFunction.{HaveSameFunction}
 use Rattle.change_model.proofs.Sifted.{sifted_same, sifted_append}
-use Rattle.change_model.proofs.Settlings.{Settles, IsOther, kept_by_op, any_settled, settled_cons, settled_gone, op_is}
+use Rattle.change_model.proofs.Settlings.{Settles, IsOther, kept_by_op, any_settled, op_is}
 
 -- ---- instructions that stay
 

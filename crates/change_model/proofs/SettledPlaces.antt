@@ -1,5 +1,5 @@
 -- Which place of the old list a place of the new one is, where constants stand for specialization constants.
-use Rattle.std.proofs.Common.{◌≡◌, ℕ, zero, suc, ◌<◌, ◌≤◌, ◌||◌, Bool, true, false, nat_lt, if◌then◌else◌, List, [], ◌∷◌, length, take, refl, ap, sym, ◌∙◌, subst, arith, Option, None, Some}
+use Rattle.std.proofs.Common.{◌≡◌, ℕ, zero, suc, ◌<◌, ◌≤◌, ◌||◌, Bool, true, false, nat_lt, if◌then◌else◌, List, [], ◌∷◌, length, take, refl, ap, sym, ◌∙◌, arith, Option, None, Some}
 use Rattle.std.specs.Option.{option_map}
 use Rattle.std.specs.List.{list_any}
 use Rattle.std.proofs.lemmas.Bool.Decides.{nat_tests}
@@ -9,7 +9,7 @@ use Rattle.valid_model.specs.Definitions.{gives, inst_at, definition, is_earlier
 use Rattle.change_model.specs.Constants.{is_spec_id}
 use Rattle.change_model.specs.Settling.{all_settled}
 use Rattle.change_model.proofs.Sifted.{PlaceIn, place_in}
-use Rattle.change_model.proofs.Settlings.{Settles, IsKeptTest, any_settled, settled_cons, settled_gone, result_same, gives_same, gone_gives}
+use Rattle.change_model.proofs.Settlings.{Settles, IsKeptTest, any_settled, result_same, gives_same, gone_gives}
 
 abbrev pub PlaceOf : (Inst → Inst) → List Inst → ℕ → Type 0
 PlaceOf f insts place = PlaceIn is_spec_id f insts place

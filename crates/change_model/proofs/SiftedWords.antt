@@ -1,5 +1,5 @@
 -- A list from which instructions are gone, and in which others aren't longer, fits the table and has no more words.
-use Rattle.std.proofs.Common.{◌≡◌, ℕ, zero, suc, ◌+◌, ◌<◌, ◌≤◌, ◌&&◌, Bool, true, false, List, [], ◌∷◌, length, refl, ap, sym, ◌∙◌, subst, arith, length-append}
+use Rattle.std.proofs.Common.{◌≡◌, ℕ, suc, ◌+◌, ◌<◌, ◌≤◌, ◌&&◌, Bool, true, false, List, [], ◌∷◌, length, refl, ap, sym, ◌∙◌, subst, arith, length-append}
 use Rattle.std.specs.Prelude.{is_some}
 use Rattle.std.specs.List.{flat_map, list_all}
 use Rattle.spirv_model.specs.declared.module.Inst.{Inst}

@@ -13,9 +13,10 @@ pub record Stays (gone : ℕ → Bool) (inst : Inst) : Type 0 where
   pub shaped : is_some (kinds inst) ≡ true
   pub none : list_any gone (ids inst) ≡ false
 
-refs : (words : List ℕ) → ids_among (map (λ (_ : ℕ). IdRef) words) words ≡ words
-refs [] = refl
-refs (word ∷ words) = ap (λ (l : List ℕ). word ∷ l) (refs words)
+-- where all operands are ids, all words are
+pub all_refs : (words : List ℕ) → ids_among (map (λ (_ : ℕ). IdRef) words) words ≡ words
+all_refs [] = refl
+all_refs (word ∷ words) = ap (λ (l : List ℕ). word ∷ l) (all_refs words)
 
 second : (a b : Bool) → (a || b) ≡ false → b ≡ false
 second true b is = cc
@@ -42,7 +43,7 @@ struct_words : (gone : ℕ → Bool) (words : List ℕ) → is_some (kinds (reco
     → list_any gone (drop 1 words) ≡ false
 unfolding ids kinds entry_of
 struct_words gone [] fits none = cc
-struct_words gone (a ∷ words) fits none = ap (list_any gone) (sym (refs words)) ∙ second (gone a) (list_any gone (ids_among (map (λ (_ : ℕ). IdRef) words) words)) none
+struct_words gone (a ∷ words) fits none = ap (list_any gone) (sym (all_refs words)) ∙ second (gone a) (list_any gone (ids_among (map (λ (_ : ℕ). IdRef) words) words)) none
 
 composite_words : (gone : ℕ → Bool) (words : List ℕ) → is_some (kinds (record { op = op.CONSTANT_COMPOSITE; words = words })) ≡ true → list_any gone (ids (record { op = op.CONSTANT_COMPOSITE; words = words })) ≡ false
     → list_any gone (drop 2 words) ≡ false
@@ -50,7 +51,7 @@ unfolding ids kinds entry_of
 composite_words gone [] fits none = cc
 composite_words gone (a ∷ []) fits none = cc
 composite_words gone (a ∷ b ∷ words) fits none =
-    ap (list_any gone) (sym (refs words))
+    ap (list_any gone) (sym (all_refs words))
     ∙ second (gone b) (list_any gone (ids_among (map (λ (_ : ℕ). IdRef) words) words)) (second (gone a) (gone b || list_any gone (ids_among (map (λ (_ : ℕ). IdRef) words) words)) none)
 
 spec_composite_words : (gone : ℕ → Bool) (words : List ℕ) → is_some (kinds (record { op = op.SPEC_CONSTANT_COMPOSITE; words = words })) ≡ true → list_any gone (ids (record { op = op.SPEC_CONSTANT_COMPOSITE; words = words })) ≡ false
@@ -59,7 +60,7 @@ unfolding ids kinds entry_of
 spec_composite_words gone [] fits none = cc
 spec_composite_words gone (a ∷ []) fits none = cc
 spec_composite_words gone (a ∷ b ∷ words) fits none =
-    ap (list_any gone) (sym (refs words))
+    ap (list_any gone) (sym (all_refs words))
     ∙ second (gone b) (list_any gone (ids_among (map (λ (_ : ℕ). IdRef) words) words)) (second (gone a) (gone b || list_any gone (ids_among (map (λ (_ : ℕ). IdRef) words) words)) none)
 
 operation_words : (gone : ℕ → Bool) (words : List ℕ) → is_some (kinds (record { op = op.SPEC_CONSTANT_OP; words = words })) ≡ true → list_any gone (ids (record { op = op.SPEC_CONSTANT_OP; words = words })) ≡ false
@@ -69,7 +70,7 @@ operation_words gone [] fits none = cc
 operation_words gone (a ∷ []) fits none = cc
 operation_words gone (a ∷ b ∷ []) fits none = cc
 operation_words gone (a ∷ b ∷ c ∷ words) fits none =
-    ap (list_any gone) (sym (refs words))
+    ap (list_any gone) (sym (all_refs words))
     ∙ second (gone b) (list_any gone (ids_among (map (λ (_ : ℕ). IdRef) words) words)) (second (gone a) (gone b || list_any gone (ids_among (map (λ (_ : ℕ). IdRef) words) words)) none)
 
 -- ---- of an instruction
