@@ -278,5 +278,9 @@ pub mod DroppedWritable
 pub mod FunctionBehind
 pub mod DroppedFunction
 pub mod SeenBehind
+pub mod StayingUses
+pub mod DroppedOperands
+pub mod DroppedUses
+pub mod DroppedInterface
 pub mod DroppedJudged
 pub mod DroppedSound
