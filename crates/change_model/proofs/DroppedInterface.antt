@@ -1,152 +1,187 @@
--- The stage, the entry point and the locations of a module are as allowed where variables and constants are dropped.
-use Rattle.std.proofs.Common.{◌≡◌, ℕ, ◌<◌, ◌==◌, ◌&&◌, ◌||◌, inl, inr, Bool, true, false, cond, if◌then◌else◌, List, [], ◌∷◌, map, length, slice_index, refl, ap, sym, ◌∙◌, arith, Option, None, Some}
+-- Where variables and constants are dropped, inputs are flat and locations are had once as before, and the stage is the same.
+use Rattle.std.proofs.Common.{◌≡◌, ℕ, suc, ◌<◌, ◌≤◌, ◌==◌, ◌&&◌, ◌||◌, Bool, true, false, not, cond, nat_le, if◌then◌else◌, List, [], ◌∷◌, length, map, refl, ap, sym, ◌∙◌, subst, arith, Option, None, Some, is_some}
 use Rattle.std.specs.Prelude.{filter}
-use Rattle.std.specs.Option.{option_map}
-use Rattle.std.proofs.lemmas.Bool.{cases_lt}
+use Rattle.std.specs.List.{find, list_any, range_with_len}
+use Rattle.std.proofs.lemmas.Bool.Decides.{nat_tests}
+use Rattle.limits.specs.declared.TheConstants.{LOCATIONS}
 use Rattle.spirv_model.specs.declared.module.Inst.{Inst}
 use Rattle.spirv_model.specs.declared.module.Words.{Words}
-use Rattle.spirv_model.specs.declared.execution_model.TheConstants.{VERTEX, FRAGMENT}
 use Rattle.spirv_model.specs.declared.op.TheConstants as op
-use Rattle.spirv_model.specs.declared.table.Operand.{Operand}
-use Rattle.spirv_model.specs.declared.table.Operand.TheVariants.{IdRef, LiteralInteger, LiteralString}
-use Rattle.spirv_model.specs.declared.table.Rest.TheVariants.{IdRefs}
-use Rattle.spirv_model.specs.Operands.{word_at, entry_of, kinds, kinds_from}
-use Rattle.body_model.specs.Classes.{is_module_level}
-use Rattle.body_model.proofs.ClassFacts.{no_level_function}
-use Rattle.body_model.proofs.ModuleLevels.{within_list}
-use Rattle.valid_model.specs.Definitions.{inst_at}
-use Rattle.valid_model.specs.ModuleFacts.{facts_of, model_of, is_entry, is_word, is_vertex}
-use Rattle.check_model.specs.declared.stage.Stage.TheVariants.{Vertex, Fragment}
-use Rattle.check_model.specs.EntryPoints.{entry_points, is_op_function, function_id, is_one_entry, bad_entry_count}
-use Rattle.check_model.specs.Interfaces.{stage_of}
+use Rattle.spirv_model.specs.declared.execution_model.TheConstants.{VERTEX}
+use Rattle.spirv_model.specs.declared.decoration.TheConstants.{LOCATION, FLAT}
+use Rattle.spirv_model.specs.declared.storage_class.TheConstants as storage_class
+use Rattle.spirv_model.specs.Operands.{word_at}
+use Rattle.valid_model.specs.EarlierFacts.{is_variable_of}
+use Rattle.valid_model.specs.ModuleFacts.{ModuleFacts, facts_of, is_word, is_vertex, is_decorated}
+use Rattle.check_model.specs.declared.stage.Stage.{Stage}
+use Rattle.check_model.specs.Interfaces.{is_variable_at, variables_at, lowest_location, is_smooth, has_smooth_input, not_flat, are_two, location_twice, stage_of}
 use Rattle.check_model.specs.Validity.{IsValidList}
-use Rattle.typed_model.proofs.BlockParts.{another}
-use Rattle.change_model.specs.Dropping.{is_dropped, words_without, words_left, entry_without, dropped, MayDrop}
-use Rattle.change_model.proofs.DroppedEntries.{one_entry, function_found, function_id_stays}
-use Rattle.change_model.proofs.DroppedFacts.{entry_stays, stage_left, model_dropped}
-use Rattle.change_model.proofs.DroppedPlaces.{dropped_before, DroppedPlace, dropped_place, dropped_to, dropped_rises, entry_op, entry_same, kept_place, function_stays}
-use Rattle.change_model.proofs.FoldedKeeps.{function_op}
-use Rattle.change_model.proofs.LevelFinds.{find_first}
-use Rattle.change_model.proofs.MovedUp.{level_inst}
+use Rattle.typed_model.proofs.BlockParts.{clash}
+use Rattle.change_model.specs.Dropping.{is_dropped, entry_without, dropped, MayDrop}
+use Rattle.change_model.proofs.DroppedFacts.{facts_dropped}
+use Rattle.change_model.proofs.DroppedPlaces.{entry_same, entry_op}
 use Rattle.change_model.proofs.Settlings.{op_is}
-use Rattle.change_model.proofs.Sifted.{sifted_cons, sifted_gone}
+use Rattle.change_model.proofs.Sifted.{sifted, sifted_cons, sifted_gone}
 
--- ---- the stage
+-- ---- fewer that pass
 
-vertex_is : (insts : List Inst) → is_vertex (facts_of insts) ≡ is_word VERTEX (model_of insts)
-unfolding facts_of
-vertex_is insts = refl
+-- what passes now passed before, and passes the second test as before
+abbrev PassedBefore : (f : Inst → Inst) (p' p s' s : Inst → Bool) → Type 0
+PassedBefore f p' p s' s = (inst : Inst) → p' (f inst) ≡ true → (p inst ≡ true) × (s' (f inst) ≡ s inst)
 
-pub vertex_dropped : (gone : ℕ → Bool) (insts : List Inst) → is_vertex (facts_of (dropped gone insts)) ≡ is_vertex (facts_of insts)
-vertex_dropped gone insts = vertex_is (dropped gone insts) ∙ ap (is_word VERTEX) (model_dropped gone insts) ∙ sym (vertex_is insts)
+fewer_any : (goes : Inst → Bool) (f : Inst → Inst) (p' p s' s : Inst → Bool) → PassedBefore f p' p s' s → (insts : List Inst) → list_any s (filter p insts) ≡ false → list_any s' (filter p' (sifted goes f insts)) ≡ false
+fewer_any goes f p' p s' s passed [] none = refl
+fewer_any goes f p' p s' s passed (inst ∷ insts) none = by_test (fewer_any goes f p' p s' s passed insts (behind (p inst) none)) (goes inst) refl
+  where
+    behind : (b : Bool) → list_any s (cond b (inst ∷ filter p insts) (filter p insts)) ≡ false → list_any s (filter p insts) ≡ false
+    behind true none = later (s inst) none
+      where
+        later : (b : Bool) → (b || list_any s (filter p insts)) ≡ false → list_any s (filter p insts) ≡ false
+        later true none = cc
+        later false none = none
+    behind false none = none
 
-pub stage_dropped : (gone : ℕ → Bool) (insts : List Inst) → stage_of (dropped gone insts) ≡ stage_of insts
-unfolding stage_of
-stage_dropped gone insts = ap (λ (b : Bool). if b then Vertex else Fragment) (vertex_dropped gone insts)
+    first : (b : Bool) → (b || list_any s (filter p insts)) ≡ false → b ≡ false
+    first true none = cc
+    first false none = refl
 
--- ---- the function
+    here : list_any s' (filter p' (sifted goes f insts)) ≡ false → (b : Bool) → p' (f inst) ≡ b → list_any s' (cond b (f inst ∷ filter p' (sifted goes f insts)) (filter p' (sifted goes f insts))) ≡ false
+    here rest false isnt = rest
+    here rest true is =
+        let e = passed inst is in
+        ap (λ (b : Bool). b || list_any s' (filter p' (sifted goes f insts)))
+        (e.1 ∙ first (s inst) (sym (ap (λ (b : Bool). list_any s (cond b (inst ∷ filter p insts) (filter p insts))) e.0) ∙ none)) ∙ rest
 
--- what stands before OpFunction stood before it
-pub old_before : (words : Words) (v : IsValidList words) (gone : ℕ → Bool) (place : ℕ) → place < dropped_before gone words.insts v.derivation → place < length (dropped gone words.insts)
-    → (p : DroppedPlace gone words.insts place) → p.old < v.derivation.before
-old_before words v gone place less within p = elim (cases_lt p.old v.derivation.before) [
-  | inl early ↦ early
-  | inr late ↦
-      let e = dropped_to gone words.insts place within p in
-      let rises = dropped_rises gone words.insts v.derivation.before p.old late in
-      absurd (omega (arith, e, rises, less))
-]
+    by_test : list_any s' (filter p' (sifted goes f insts)) ≡ false → (b : Bool) → goes inst ≡ b → list_any s' (filter p' (sifted goes f (inst ∷ insts))) ≡ false
+    by_test rest true is = ap (λ (l : List Inst). list_any s' (filter p' l)) (sifted_gone goes f inst insts is) ∙ rest
+    by_test rest false isnt = ap (λ (l : List Inst). list_any s' (filter p' l)) (sifted_cons goes f inst insts isnt) ∙ here rest (p' (f inst)) refl
 
--- only the module's level stands before it
-pub level_left : (words : Words) (v : IsValidList words) (gone : ℕ → Bool) (place : ℕ) → place < dropped_before gone words.insts v.derivation → place < length (dropped gone words.insts)
-    → is_module_level (inst_at (dropped gone words.insts) place).op ≡ true
-level_left words v gone place less within =
-    let p = dropped_place gone words.insts place within in
-    ap (λ (i : Inst). is_module_level i.op) p.inst ∙ ap is_module_level (entry_op gone (inst_at words.insts p.old)) ∙ level_inst words.insts v.derivation p.old (old_before words v gone place less within p)
+fewer_long : (goes : Inst → Bool) (f : Inst → Inst) (p' p : Inst → Bool) → ((inst : Inst) → p' (f inst) ≡ true → p inst ≡ true) → (insts : List Inst) → length (filter p' (sifted goes f insts)) ≤ length (filter p insts)
+fewer_long goes f p' p passed [] = omega arith
+fewer_long goes f p' p passed (inst ∷ insts) = by_test (fewer_long goes f p' p passed insts) (goes inst) refl
+  where
+    more : length (filter p' (sifted goes f insts)) ≤ length (filter p insts) → (b : Bool) → length (filter p' (sifted goes f insts)) ≤ length (cond b (inst ∷ filter p insts) (filter p insts))
+    more rest true = omega (arith, rest)
+    more rest false = rest
 
-pub function_there : (words : Words) (v : IsValidList words) (gone : ℕ → Bool) → MayDrop words v gone → (dropped_before gone words.insts v.derivation < length (dropped gone words.insts))
-    × (inst_at (dropped gone words.insts) (dropped_before gone words.insts v.derivation) ≡ inst_at words.insts v.derivation.before)
-function_there words v gone m =
-    let insts = words.insts in let before = v.derivation.before in
-    let within = within_list op.FUNCTION insts before v.derivation.begins.function in
-    let k = kept_place gone insts before within (function_stays words v gone m before (omega arith) within) in
-    (k.within, k.inst ∙ entry_same gone (inst_at insts before) (ap (λ (o : ℕ). o == op.ENTRY_POINT) (function_op insts v.derivation)))
+    both : length (filter p' (sifted goes f insts)) ≤ length (filter p insts) → (a b : Bool) → (a ≡ true → b ≡ true)
+        → length (cond a (f inst ∷ filter p' (sifted goes f insts)) (filter p' (sifted goes f insts))) ≤ length (cond b (inst ∷ filter p insts) (filter p insts))
+    both rest false b so = more rest b
+    both rest true true so = omega (arith, rest)
+    both rest true false so = let e = so refl in cc
 
-pub function_id_dropped : (words : Words) (v : IsValidList words) (gone : ℕ → Bool) → MayDrop words v gone → function_id (dropped gone words.insts) ≡ function_id words.insts
-function_id_dropped words v gone m =
-    let insts = words.insts in let new = dropped gone insts in
-    let t = function_there words v gone m in
-    let first = dropped_before gone insts v.derivation in
-    ap (option_map (word_at 1))
-    (find_first is_op_function new first t.0 (ap is_op_function t.1 ∙ ap (λ (o : ℕ). o == op.FUNCTION) (function_op insts v.derivation))
-    (λ k less. let w = t.0 in another is_module_level op.FUNCTION no_level_function (inst_at new k).op (level_left words v gone k less (omega (arith, less, w))))
-    ∙ ap (λ (i : Inst). Some i) t.1 ∙ sym (function_found insts v.derivation))
+    by_test : length (filter p' (sifted goes f insts)) ≤ length (filter p insts) → (b : Bool) → goes inst ≡ b → length (filter p' (sifted goes f (inst ∷ insts))) ≤ length (cond (p inst) (inst ∷ filter p insts) (filter p insts))
+    by_test rest true is = subst (λ (l : List Inst). length (filter p' l) ≤ length (cond (p inst) (inst ∷ filter p insts) (filter p insts))) (sym (sifted_gone goes f inst insts is)) (more rest (p inst))
+    by_test rest false isnt =
+        subst (λ (l : List Inst). length (filter p' l) ≤ length (cond (p inst) (inst ∷ filter p insts) (filter p insts))) (sym (sifted_cons goes f inst insts isnt))
+        (both rest (p' (f inst)) (p inst) (passed inst))
 
--- ---- the entry point
+found_none : (p q : ℕ → Bool) → ((n : ℕ) → q n ≡ false → p n ≡ false) → (list : List ℕ) → find q list ≡ None → find p list ≡ None
+found_none p q so [] none = refl
+found_none p q so (n ∷ list) none = by_test (q n) refl none (found_none p q so list)
+  where
+    by_test : (b : Bool) → q n ≡ b → cond b (Some n) (find q list) ≡ None → (find q list ≡ None → find p list ≡ None) → cond (p n) (Some n) (find p list) ≡ None
+    by_test true is none rest = cc
+    by_test false isnt none rest = ap (λ (b : Bool). cond b (Some n) (find p list)) (so n isnt) ∙ rest none
 
-filter_entries : (gone : ℕ → Bool) (insts : List Inst) → filter is_entry (dropped gone insts) ≡ map (entry_without gone) (filter is_entry insts)
+-- ---- variables at a location
+
+decorated_left : (words : Words) (v : IsValidList words) (gone : ℕ → Bool) → MayDrop words v gone → (id decoration : ℕ)
+    → (facts_of (dropped gone words.insts)).decoration id decoration ≡ (if gone id then None else (facts_of words.insts).decoration id decoration)
+decorated_left words v gone m id decoration = ap (λ (d : ℕ → ℕ → Option ℕ). d id decoration) (facts_dropped words v gone m).decoration
+
+no_variable : (facts : ModuleFacts) (storage location : ℕ) (inst : Inst) → inst.op == op.VARIABLE ≡ false → is_variable_at facts storage location inst ≡ false
+no_variable facts storage location inst isnt = rw isnt refl
+
+-- a variable that is there was there, and is as smooth as it was
+there_before : (words : Words) (v : IsValidList words) (gone : ℕ → Bool) → MayDrop words v gone → (storage location : ℕ)
+    → PassedBefore (entry_without gone) (is_variable_at (facts_of (dropped gone words.insts)) storage location) (is_variable_at (facts_of words.insts) storage location) (is_smooth (facts_of (dropped gone words.insts))) (is_smooth (facts_of words.insts))
+there_before words v gone m storage location inst passes = by_entry (inst.op == op.ENTRY_POINT) refl
+  where
+    new : ModuleFacts
+    new = facts_of (dropped gone words.insts)
+
+    old : ModuleFacts
+    old = facts_of words.insts
+
+    by_gone : (b : Bool) → gone (word_at 1 inst) ≡ b → (is_variable_of storage inst && is_word location (if b then None else old.decoration (word_at 1 inst) LOCATION)) ≡ true
+        → (is_variable_at old storage location inst ≡ true) × (is_smooth new inst ≡ is_smooth old inst)
+    by_gone true is passes = absurd (never (is_variable_of storage inst) passes)
+      where
+        never : (b : Bool) → (b && false) ≡ true → ⊥
+        never true is = cc
+        never false is = cc
+    by_gone false stays passes = (
+      passes,
+      ap (λ (o : Option ℕ). not (is_some o)) (decorated_left words v gone m (word_at 1 inst) FLAT ∙ ap (λ (b : Bool). if b then None else old.decoration (word_at 1 inst) FLAT) stays),
+    )
+
+    by_entry : (b : Bool) → inst.op == op.ENTRY_POINT ≡ b → (is_variable_at old storage location inst ≡ true) × (is_smooth new (entry_without gone inst) ≡ is_smooth old inst)
+    by_entry true is =
+        absurd (clash _ passes (no_variable new storage location (entry_without gone inst) (ap (λ (o : ℕ). o == op.VARIABLE) (entry_op gone inst ∙ op_is inst.op op.ENTRY_POINT is))))
+    by_entry false isnt =
+        let same = entry_same gone inst isnt in
+        let r = by_gone (gone (word_at 1 inst)) refl
+        (sym (ap (λ (o : Option ℕ). is_variable_of storage inst && is_word location o) (decorated_left words v gone m (word_at 1 inst) LOCATION)) ∙ sym (ap (is_variable_at new storage location) same) ∙ passes) in
+        (r.0, ap (is_smooth new) same ∙ r.1)
+
+sifts : (gone : ℕ → Bool) (insts : List Inst) → sifted (is_dropped gone) (entry_without gone) insts ≡ dropped gone insts
 unfolding dropped
-filter_entries gone [] = refl
-filter_entries gone (inst ∷ insts) = by_test (filter_entries gone insts) (is_dropped gone inst) refl
+sifts gone insts = refl
+
+vertex_left : (words : Words) (v : IsValidList words) (gone : ℕ → Bool) → MayDrop words v gone → is_vertex (facts_of (dropped gone words.insts)) ≡ is_vertex (facts_of words.insts)
+vertex_left words v gone m = ap (is_word VERTEX) (facts_dropped words v gone m).model
+
+smooth_left : (words : Words) (v : IsValidList words) (gone : ℕ → Bool) → MayDrop words v gone → (location : ℕ) → has_smooth_input (facts_of words.insts) words.insts location ≡ false
+    → has_smooth_input (facts_of (dropped gone words.insts)) (dropped gone words.insts) location ≡ false
+smooth_left words v gone m location none = in_sifted (facts_of (dropped gone words.insts)) (there_before words v gone m storage_class.INPUT location)
   where
-    here : (b : Bool) → filter is_entry (dropped gone insts) ≡ map (entry_without gone) (filter is_entry insts)
-        → cond b (entry_without gone inst ∷ filter is_entry (dropped gone insts)) (filter is_entry (dropped gone insts)) ≡ map (entry_without gone) (cond b (inst ∷ filter is_entry insts) (filter is_entry insts))
-    here true rest = ap (λ (l : List Inst). entry_without gone inst ∷ l) rest
-    here false rest = rest
+    in_sifted : (new : ModuleFacts) → PassedBefore (entry_without gone) (is_variable_at new storage_class.INPUT location) (is_variable_at (facts_of words.insts) storage_class.INPUT location) (is_smooth new) (is_smooth (facts_of words.insts))
+        → has_smooth_input new (dropped gone words.insts) location ≡ false
+    in_sifted new passed = subst (λ (l : List Inst). has_smooth_input new l location ≡ false) (sifts gone words.insts)
+        (fewer_any (is_dropped gone) (entry_without gone) (is_variable_at new storage_class.INPUT location) (is_variable_at (facts_of words.insts) storage_class.INPUT location) (is_smooth new) (is_smooth (facts_of words.insts)) passed words.insts none)
 
-    by_test : filter is_entry (dropped gone insts) ≡ map (entry_without gone) (filter is_entry insts) → (b : Bool) → is_dropped gone inst ≡ b
-        → filter is_entry (dropped gone (inst ∷ insts)) ≡ map (entry_without gone) (cond (is_entry inst) (inst ∷ filter is_entry insts) (filter is_entry insts))
-    by_test rest true is =
-        ap (filter is_entry) (sifted_gone (is_dropped gone) (entry_without gone) inst insts is) ∙ rest
-        ∙ ap (λ (b : Bool). map (entry_without gone) (cond b (inst ∷ filter is_entry insts) (filter is_entry insts))) (sym (entry_stays gone inst is))
-    by_test rest false is =
-        ap (filter is_entry) (sifted_cons (is_dropped gone) (entry_without gone) inst insts is)
-        ∙ ap (λ (b : Bool). cond b (entry_without gone inst ∷ filter is_entry (dropped gone insts)) (filter is_entry (dropped gone insts))) (ap (λ (o : ℕ). o == op.ENTRY_POINT) (entry_op gone inst))
-        ∙ here (is_entry inst) rest
-
-second_word : (gone : ℕ → Bool) (words : List ℕ) → gone (slice_index words 1) ≡ false → slice_index (words_left gone (kinds (record { op = op.ENTRY_POINT; words = words })) words) 1 ≡ slice_index words 1
-unfolding kinds entry_of
-second_word gone [] stays = refl
-second_word gone (stage ∷ []) stays = refl
-second_word gone (stage ∷ function ∷ words) stays = by_found (kinds_from (Some LiteralString ∷ None ∷ None ∷ []) IdRefs words)
+two_left : (words : Words) (v : IsValidList words) (gone : ℕ → Bool) → MayDrop words v gone → (storage location : ℕ) → are_two (facts_of words.insts) words.insts storage location ≡ false
+    → are_two (facts_of (dropped gone words.insts)) (dropped gone words.insts) storage location ≡ false
+two_left words v gone m storage location few = in_sifted (facts_of (dropped gone words.insts)) (λ inst is. (there_before words v gone m storage location inst is).0)
   where
-    by_found : (found : Option (List Operand))
-        → slice_index (words_left gone (option_map (λ (k : List Operand). LiteralInteger ∷ k) (option_map (λ (k : List Operand). IdRef ∷ k) found)) (stage ∷ function ∷ words)) 1 ≡ function
-    by_found None = refl
-    by_found (Some k) = ap (λ (b : Bool). slice_index (stage ∷ (if b then words_without gone k words else function ∷ words_without gone k words)) 1) stays
+    fewer : (a b : ℕ) → a ≤ b → nat_le 2 b ≡ false → nat_le 2 a ≡ false
+    fewer a b less few = grind (arith, nat_tests)
 
--- it names the function that it named
-pub named_left : (gone : ℕ → Bool) (inst : Inst) → gone (word_at 1 inst) ≡ false → word_at 1 (entry_without gone inst) ≡ word_at 1 inst
-named_left gone inst stays = by_test (inst.op == op.ENTRY_POINT) refl
+    in_sifted : (new : ModuleFacts) → ((inst : Inst) → is_variable_at new storage location (entry_without gone inst) ≡ true → is_variable_at (facts_of words.insts) storage location inst ≡ true)
+        → are_two new (dropped gone words.insts) storage location ≡ false
+    in_sifted new passed = subst (λ (l : List Inst). are_two new l storage location ≡ false) (sifts gone words.insts)
+        (fewer _ _ (fewer_long (is_dropped gone) (entry_without gone) (is_variable_at new storage location) (is_variable_at (facts_of words.insts) storage location) passed words.insts) few)
+
+-- ---- faults
+
+pub flat_dropped : (words : Words) (v : IsValidList words) (gone : ℕ → Bool) → MayDrop words v gone → not_flat words.insts ≡ None → not_flat (dropped gone words.insts) ≡ None
+unfolding not_flat
+flat_dropped words v gone m none =
+    ap (λ (b : Bool). if b then None else lowest_location (has_smooth_input (facts_of (dropped gone words.insts)) (dropped gone words.insts))) (vertex_left words v gone m)
+    ∙ by_vertex (is_vertex (facts_of words.insts)) none
   where
-    of_entry : (opcode : ℕ) → opcode ≡ op.ENTRY_POINT → slice_index (words_left gone (kinds (record { op = opcode; words = inst.words })) inst.words) 1 ≡ slice_index inst.words 1
-    of_entry opcode is = ap (λ (o : ℕ). slice_index (words_left gone (kinds (record { op = o; words = inst.words })) inst.words) 1) is ∙ second_word gone inst.words stays
+    by_vertex : (b : Bool) → (if b then None else lowest_location (has_smooth_input (facts_of words.insts) words.insts)) ≡ None
+        → (if b then None else lowest_location (has_smooth_input (facts_of (dropped gone words.insts)) (dropped gone words.insts))) ≡ None
+    by_vertex true none = refl
+    by_vertex false none =
+        found_none (has_smooth_input (facts_of (dropped gone words.insts)) (dropped gone words.insts)) (has_smooth_input (facts_of words.insts) words.insts) (smooth_left words v gone m) (range_with_len 0 LOCATIONS) none
 
-    by_test : (b : Bool) → inst.op == op.ENTRY_POINT ≡ b → word_at 1 (entry_without gone inst) ≡ word_at 1 inst
-    by_test true is =
-        ap (λ (b : Bool). word_at 1 (if b then record inst { words = words_left gone (kinds inst) inst.words } else inst)) is ∙ of_entry inst.op (op_is inst.op op.ENTRY_POINT is)
-    by_test false isnt = ap (word_at 1) (entry_same gone inst isnt)
-
-entries_left : (gone : ℕ → Bool) (id : ℕ) → gone id ≡ false → (entries : List Inst) → is_one_entry (Some id) entries ≡ true → is_one_entry (Some id) (map (entry_without gone) entries) ≡ true
-entries_left gone id stays [] one = cc
-entries_left gone id stays (entry ∷ other ∷ entries) one = cc
-entries_left gone id stays (entry ∷ []) one =
-    let named : id ≡ word_at 1 entry = op_is id (word_at 1 entry) (second ((word_at 0 entry == VERTEX) || (word_at 0 entry == FRAGMENT)) (id == word_at 1 entry) one) in
-    ap (λ (n : ℕ). ((n == VERTEX) || (n == FRAGMENT)) && (id == word_at 1 (entry_without gone entry))) (stage_left gone entry)
-    ∙ ap (λ (n : ℕ). ((word_at 0 entry == VERTEX) || (word_at 0 entry == FRAGMENT)) && (id == n)) (named_left gone entry (ap gone (sym named) ∙ stays)) ∙ one
+pub twice_dropped : (words : Words) (v : IsValidList words) (gone : ℕ → Bool) → MayDrop words v gone → location_twice words.insts ≡ None → location_twice (dropped gone words.insts) ≡ None
+unfolding location_twice
+twice_dropped words v gone m none =
+    found_none (λ location. are_two (facts_of new) new storage_class.INPUT location || are_two (facts_of new) new storage_class.OUTPUT location)
+    (λ location. are_two (facts_of words.insts) words.insts storage_class.INPUT location || are_two (facts_of words.insts) words.insts storage_class.OUTPUT location)
+    (λ location few. neither _ _ _ _ few (two_left words v gone m storage_class.INPUT location) (two_left words v gone m storage_class.OUTPUT location)) (range_with_len 0 LOCATIONS) none
   where
-    second : (a b : Bool) → (a && b) ≡ true → b ≡ true
-    second true b is = is
-    second false b is = cc
+    new : List Inst
+    new = dropped gone words.insts
 
--- there is one entry point, into the function
-pub entry_dropped : (words : Words) (v : IsValidList words) (gone : ℕ → Bool) → MayDrop words v gone → bad_entry_count (dropped gone words.insts) ≡ None
-unfolding bad_entry_count
-entry_dropped words v gone m =
-    let insts = words.insts in let new = dropped gone insts in
-    let id = word_at 1 (inst_at insts v.derivation.before) in
-    let f : function_id insts ≡ Some id = ap (option_map (word_at 1)) (function_found insts v.derivation) in
-    let one : is_one_entry (function_id new) (entry_points new) ≡ true =
-    ap (λ (o : Option ℕ). is_one_entry o (entry_points new)) (function_id_dropped words v gone m ∙ f) ∙ ap (is_one_entry (Some id)) (filter_entries gone insts)
-    ∙ entries_left gone id (function_id_stays words v gone m) (entry_points insts) (sym (ap (λ (o : Option ℕ). is_one_entry o (entry_points insts)) f) ∙ one_entry words v) in
-    ap (λ (b : Bool). if b then None else Some (length (entry_points new))) one
+    neither : (a b a' b' : Bool) → (a || b) ≡ false → (a ≡ false → a' ≡ false) → (b ≡ false → b' ≡ false) → (a' || b') ≡ false
+    neither true b a' b' few first second = cc
+    neither false true a' b' few first second = cc
+    neither false false a' b' few first second = let x = first refl in let y = second refl in cc
+
+pub dropped_stage : (words : Words) (v : IsValidList words) (gone : ℕ → Bool) → MayDrop words v gone → stage_of (dropped gone words.insts) ≡ stage_of words.insts
+unfolding stage_of
+dropped_stage words v gone m = rw (vertex_left words v gone m) refl

@@ -294,9 +294,10 @@ pub mod DroppedWritable
 pub mod FunctionBehind
 pub mod DroppedFunction
 pub mod SeenBehind
+pub mod StayingUses
+pub mod DroppedOperands
+pub mod DroppedUses
+pub mod DroppedInterface
 pub mod DroppedJudged
 pub mod DroppedSound
-pub mod DroppedWritten
 pub mod PartReads
-pub mod DroppedInterface
-pub mod DroppedLocations

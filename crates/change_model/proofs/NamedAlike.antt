@@ -32,7 +32,7 @@ use Rattle.change_model.proofs.Settlings.{op_is}
 
 -- ---- what both modules know
 
-typing_numbers : (insts : List Inst) → ((typing_of insts).constant ≡ constant_word insts) × ((typing_of insts).vertex ≡ is_vertex (facts_of insts))
+pub typing_numbers : (insts : List Inst) → ((typing_of insts).constant ≡ constant_word insts) × ((typing_of insts).vertex ≡ is_vertex (facts_of insts))
 unfolding typing_of
 typing_numbers insts = (refl, refl)
 

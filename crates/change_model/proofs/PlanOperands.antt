@@ -111,13 +111,13 @@ fits_level g k low =
 -- ---- instructions that stay
 
 -- the classes of the function's instructions that have a rule
-data HasRule (of : Option Class) : Type 0 where
+pub data HasRule (of : Option Class) : Type 0 where
   plain : is_plain_class of ≡ true → HasRule of
   phi : of ≡ Some class.Phi → HasRule of
   ending : of ≡ Some class.Terminator → HasRule of
   free : ((typing : Typing) (inst : Inst) → operands_fit_class typing of inst ≡ true) → HasRule of
 
-rule_of : (of : Option Class) → HasRule of
+pub rule_of : (of : Option Class) → HasRule of
 rule_of None = free (λ typing inst. refl)
 rule_of (Some class.Undef) = plain refl
 rule_of (Some class.Memory) = plain refl
@@ -127,14 +127,14 @@ rule_of (Some class.Phi) = phi refl
 rule_of (Some class.Terminator) = ending refl
 rule_of (Some other) = free (λ typing inst. refl)
 
-no_plain_phi : is_plain_class (Some class.Phi) ≡ true → ⊥
+pub no_plain_phi : is_plain_class (Some class.Phi) ≡ true → ⊥
 no_plain_phi is = cc
 
-no_ending_phi : ◌≡◌ {A = Option Class} (Some class.Phi) (Some class.Terminator) → ⊥
+pub no_ending_phi : ◌≡◌ {A = Option Class} (Some class.Phi) (Some class.Terminator) → ⊥
 no_ending_phi is = cc
 
 -- an instruction of another class than that of phis is none
-not_phi : (inst : Inst) → (class_of inst.op ≡ Some class.Phi → ⊥) → inst.op == op.PHI ≡ false
+pub not_phi : (inst : Inst) → (class_of inst.op ≡ Some class.Phi → ⊥) → inst.op == op.PHI ≡ false
 not_phi inst never = by_test (inst.op == op.PHI) refl
   where
     by_test : (b : Bool) → inst.op == op.PHI ≡ b → b ≡ false

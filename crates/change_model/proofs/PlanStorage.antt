@@ -53,11 +53,11 @@ unfolding is_wrong_storage
 free_storage typing also inside inst isnt = rw isnt refl
 
 -- neither does what is no variable
-storage_of_none : (typing : Typing) (inside : Bool) (inst : Inst) → inst.op == op.STORE ≡ false → inst.op == op.VARIABLE ≡ false → is_wrong_storage typing inside inst ≡ false
+pub storage_of_none : (typing : Typing) (inside : Bool) (inst : Inst) → inst.op == op.STORE ≡ false → inst.op == op.VARIABLE ≡ false → is_wrong_storage typing inside inst ≡ false
 unfolding is_wrong_storage
 storage_of_none typing inside inst isnt neither = rw isnt (rw neither refl)
 
-storage_of_store : (typing : Typing) (inside : Bool) (inst : Inst) → inst.op == op.STORE ≡ true → is_wrong_storage typing inside inst ≡ points_to_read_only (type_of typing (word_at 0 inst))
+pub storage_of_store : (typing : Typing) (inside : Bool) (inst : Inst) → inst.op == op.STORE ≡ true → is_wrong_storage typing inside inst ≡ points_to_read_only (type_of typing (word_at 0 inst))
 unfolding is_wrong_storage
 storage_of_store typing inside inst is = rw is refl
 
@@ -92,7 +92,7 @@ level_good g k low =
 
 -- ---- stores
 
-store_words : (new old : Typing) (name : ℕ → ℕ) → AreAlike new old → (P : ℕ → Type 0) → ((id : ℕ) → P (name id) → IsAlike new old (name id) id) → (words : List ℕ) → is_some (kinds (instruction op.STORE words)) ≡ true
+pub store_words : (new old : Typing) (name : ℕ → ℕ) → AreAlike new old → (P : ℕ → Type 0) → ((id : ℕ) → P (name id) → IsAlike new old (name id) id) → (words : List ℕ) → is_some (kinds (instruction op.STORE words)) ≡ true
     → Each P (used_ids (renamed name (instruction op.STORE words))) → points_to_read_only (type_of new (word_at 0 (renamed name (instruction op.STORE words)))) ≡ points_to_read_only (type_of old (word_at 0 (instruction op.STORE words)))
 unfolding kinds class_of entry_of used_ids
 store_words new old name a P alike (pointer ∷ object ∷ []) has used = says_alike points_to_read_only read_only_by new old a (name pointer) pointer (alike pointer used.0)

@@ -165,7 +165,7 @@ incoming_sooner new old d' d k s place low pair alike =
 -- ---- at a place in the function
 
 -- all that is visible is visible where the two sides are alike for what isn't left out
-all_alike : (gone p q : ℕ → Bool) → ((id : ℕ) → gone id ≡ false → q id ≡ p id) → (ids : List ℕ) → list_any gone ids ≡ false → list_all p ids ≡ true → list_all q ids ≡ true
+pub all_alike : (gone p q : ℕ → Bool) → ((id : ℕ) → gone id ≡ false → q id ≡ p id) → (ids : List ℕ) → list_any gone ids ≡ false → list_all p ids ≡ true → list_all q ids ≡ true
 all_alike gone p q alike [] none all = refl
 all_alike gone p q alike (id ∷ ids) none all = by_tests (gone id) (p id) refl refl none all (all_alike gone p q alike ids)
   where
@@ -174,7 +174,7 @@ all_alike gone p q alike (id ∷ ids) none all = by_tests (gone id) (p id) refl 
     by_tests false false goes is none all rest = cc
     by_tests false true goes is none all rest = ap (λ (b : Bool). b && list_all q ids) (alike id goes ∙ is) ∙ rest none all
 
-pairs_alike : (gone : ℕ → Bool) (p q : Incoming → Bool) → ((pair : Incoming) → gone pair.value ≡ false → q pair ≡ p pair) → (pairs : List Incoming) → list_any (λ (pair : Incoming). gone pair.value) pairs ≡ false
+pub pairs_alike : (gone : ℕ → Bool) (p q : Incoming → Bool) → ((pair : Incoming) → gone pair.value ≡ false → q pair ≡ p pair) → (pairs : List Incoming) → list_any (λ (pair : Incoming). gone pair.value) pairs ≡ false
     → list_all p pairs ≡ true → list_all q pairs ≡ true
 pairs_alike gone p q alike [] none all = refl
 pairs_alike gone p q alike (pair ∷ pairs) none all = by_tests (gone pair.value) (p pair) refl refl none all (pairs_alike gone p q alike pairs)
