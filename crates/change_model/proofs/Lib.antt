@@ -301,3 +301,4 @@ pub mod DroppedInterface
 pub mod DroppedJudged
 pub mod DroppedSound
 pub mod PartReads
+pub mod DroppedRuns

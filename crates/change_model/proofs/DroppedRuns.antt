@@ -1,0 +1,246 @@
+-- The machine of a list from which variables and constants are dropped follows that of the list before: it stands as far behind OpFunction, and
+-- what stays has the same values and words.
+use Rattle.std.proofs.Common.{◌≡◌, ℕ, zero, suc, ◌+◌, ◌-◌, ◌<◌, ◌≤◌, ◌==◌, ◌&&◌, ◌||◌, Bool, true, false, not, nat_le, nat_lt, if◌then◌else◌, List, [], ◌∷◌, length, take, drop, slice_index, refl, ap, sym, ◌∙◌, subst, arith, inl, inr, Option, None, Some, is_some}
+use Rattle.std.specs.List.{list_any}
+use Rattle.std.specs.Option.{option_map, option_and_then}
+use Rattle.std.proofs.lemmas.Bool.{cases_lt, eqb-true, eq-eqb}
+use Rattle.std.proofs.lemmas.Bool.Decides.{nat_tests}
+use Rattle.std.proofs.lemmas.Option.{slice_get-get_or}
+use Rattle.limits.specs.declared.TheConstants.{BACK_EDGES}
+use Rattle.spirv_model.specs.declared.module.Inst.{Inst}
+use Rattle.spirv_model.specs.declared.module.Words.{Words}
+use Rattle.spirv_model.specs.declared.op.TheConstants as op
+use Rattle.spirv_model.specs.Operands.{word_at, words_from, entry_of, class_of, kinds, ids}
+use Rattle.body_model.specs.Switches.{is_among}
+use Rattle.valid_model.specs.Definitions.{definition, inst_at, no_instruction}
+use Rattle.check_model.specs.Intervals.{intervals_of}
+use Rattle.check_model.specs.Validity.{IsValidList}
+use Rattle.check_model.specs.Visibility.{Incoming, incoming_in, incoming, used_ids}
+use Rattle.stage_model.specs.Value.{Value, Truth, Word, Composite, Pointer, Outside}
+use Rattle.stage_model.specs.Program.{Program, program_of, held_layout, is_label, first_label_place}
+use Rattle.stage_model.specs.Start.{Values, Memory, with_value, all_values}
+use Rattle.stage_model.specs.Effect.{Effect, Passes, Gives, Writes, Enters, Goes, Stops, paired_with, read_ids, with_words, result_of, effect_of}
+use Rattle.stage_model.specs.Machine.{State, Flow, Next, To, Stopped, Machine, Step, GoesOn, Ends, read_from, read_values, counted, after_effect, done, back_to, jump, led, at, step}
+use Rattle.typed_model.proofs.BlockParts.{another, clash}
+use Rattle.typed_model.proofs.EffectsRun.{instruction}
+use Rattle.typed_model.proofs.FunctionRuns.{function_within}
+use Rattle.typed_model.proofs.PlainRuns.{at_op}
+use Rattle.typed_model.proofs.ReadTypes.{Each}
+use Rattle.change_model.specs.Dropping.{entry_without, dropped, dropped_words, MayDrop}
+use Rattle.change_model.proofs.ChangedLabels.{found_at, first_at}
+use Rattle.change_model.proofs.DroppedPlaces.{dropped_left, DroppedPlace, dropped_place, dropped_to, kept_place, entry_same, entry_op, function_stays, dropped_before, function_inst, function_left, function_length}
+use Rattle.change_model.proofs.FoundUses.{label_inside, stands_inside}
+use Rattle.change_model.proofs.LeftPlacedWhole.{labels_once}
+use Rattle.change_model.proofs.PhiPairsLeft.{In}
+
+-- ---- what phis read
+
+each_paired : (P : ℕ → Type 0) (before : ℕ) (words : List ℕ) → ((pair : Incoming) → In pair (incoming_in words) → P pair.value) → Each P (paired_with before words)
+each_paired P before [] all = tt
+each_paired P before (value ∷ []) all = tt
+each_paired P before (value ∷ block ∷ words) all = by_test (block == before) (each_paired P before words (λ pair has. all pair (inr has)))
+  where
+    by_test : (b : Bool) → Each P (paired_with before words) → Each P (if b then value ∷ [] else paired_with before words)
+    by_test true rest = (all (record { value = value; block = block }) (inl refl), tt)
+    by_test false rest = rest
+
+-- what a phi does doesn't depend on the program
+phi_effect : (p q : Program) (new old : Memory) (values : List Value) (words : List ℕ) → effect_of p new (instruction op.PHI words) values ≡ effect_of q old (instruction op.PHI words) values
+unfolding effect_of result_of class_of entry_of
+phi_effect p q new old values words = refl
+
+phi_reads : (before : ℕ) (words : List ℕ) → read_ids op.PHI before words ≡ paired_with before (drop 2 words)
+unfolding read_ids
+phi_reads before words = refl
+
+-- ---- values that are read
+
+all_same : (new old : Values) (ids : List ℕ) → Each (λ id. new id ≡ old id) ids → all_values new ids ≡ all_values old ids
+all_same new old [] each = refl
+all_same new old (id ∷ ids) each =
+    ap (option_and_then (λ (a : Value). option_map (λ (l : List Value). a ∷ l) (all_values new ids))) each.0
+    ∙ ap (λ (o : Option (List Value)). option_and_then (λ (a : Value). option_map (λ (l : List Value). a ∷ l) o) (old id)) (all_same new old ids each.1)
+
+map_each : {P Q : ℕ → Type 0} → ((id : ℕ) → P id → Q id) → (ids : List ℕ) → Each P ids → Each Q ids
+map_each f [] each = tt
+map_each f (id ∷ ids) each = (f id each.0, map_each f ids each.1)
+
+of_all : (P : ℕ → Type 0) (ids : List ℕ) → ((id : ℕ) → is_among id ids ≡ true → P id) → Each P ids
+of_all P [] all = tt
+of_all P (id ∷ ids) all = (all id (by_left (id == id) (is_among id ids) (eq-eqb id id refl)), of_all P ids (λ other among. all other (by_right (id == other) (is_among other ids) among)))
+  where
+    by_left : (a b : Bool) → a ≡ true → (a || b) ≡ true
+    by_left true b is = refl
+    by_left false b is = cc
+
+    by_right : (a b : Bool) → b ≡ true → (a || b) ≡ true
+    by_right true b is = refl
+    by_right false b is = is
+
+front_of : (first : Option Value) (rest : Option (List Value)) (read : List Value) → option_and_then (λ (a : Value). option_map (λ (l : List Value). a ∷ l) rest) first ≡ Some read
+    → (a : Value) × (l : List Value) × (first ≡ Some a) × (rest ≡ Some l) × (a ∷ l ≡ read)
+front_of None rest read is = cc
+front_of (Some a) None read is = cc
+front_of (Some a) (Some l) read is = (a, l, refl, refl, cc)
+
+no_more : (read : List Value) → ◌≡◌ {A = Option (List Value)} (Some []) (Some read) → [] ≡ read
+no_more read is = cc
+
+-- what holds of each value of these ids holds of those that are read
+each_read : (Q : Value → Type 0) (All : List Value → Type 0) → All [] → ((value : Value) (values : List Value) → Q value → All values → All (value ∷ values)) → (values : Values) (ids : List ℕ) (read : List Value)
+    → Each (λ id. (value : Value) → values id ≡ Some value → Q value) ids → all_values values ids ≡ Some read → All read
+each_read Q All none more values [] read each are = subst All (no_more read are) none
+each_read Q All none more values (id ∷ ids) read each are =
+    let f = front_of (values id) (all_values values ids) read are in
+    subst All f.4 (more f.0 f.1 (each.0 f.0 f.2) (each_read Q All none more values ids f.1 each.1 f.3))
+
+-- ---- states
+
+-- what stays has the same values and words in both, and both have taken the same way
+pub record AreSame (gone : ℕ → Bool) (new old : State) : Type 0 where
+  pub values : (id : ℕ) → gone id ≡ false → new.values id ≡ old.values id
+  pub values_at_entry : (id : ℕ) → gone id ≡ false → new.values_at_entry id ≡ old.values_at_entry id
+  pub memory : (variable at : ℕ) → gone variable ≡ false → new.memory variable at ≡ old.memory variable at
+  pub label : new.label ≡ old.label
+  pub before : new.before ≡ old.before
+  pub back_edges : new.back_edges ≡ old.back_edges
+  pub steps : new.steps ≡ old.steps
+
+same_counted : (gone : ℕ → Bool) (new old : State) → AreSame gone new old → AreSame gone (counted new) (counted old)
+same_counted gone new old s =
+    record { values = s.values; values_at_entry = s.values_at_entry; memory = s.memory; label = s.label; before = s.before; back_edges = s.back_edges; steps = ap (λ (n : ℕ). n + 1) s.steps }
+
+same_edges : (gone : ℕ → Bool) (new old : State) → AreSame gone new old → AreSame gone (record new { back_edges = new.back_edges + 1 }) (record old { back_edges = old.back_edges + 1 })
+same_edges gone new old s =
+    record { values = s.values; values_at_entry = s.values_at_entry; memory = s.memory; label = s.label; before = s.before; back_edges = ap (λ (n : ℕ). n + 1) s.back_edges; steps = s.steps }
+
+same_read : (gone : ℕ → Bool) (new old : State) (opcode : ℕ) → AreSame gone new old → (id : ℕ) → gone id ≡ false → read_from new opcode id ≡ read_from old opcode id
+same_read gone new old opcode s id stays = by_test (opcode == op.PHI)
+  where
+    by_test : (b : Bool) → (if b then new.values_at_entry else new.values) id ≡ (if b then old.values_at_entry else old.values) id
+    by_test true = s.values_at_entry id stays
+    by_test false = s.values id stays
+
+given_same : (own : ℕ) (value : Value) (new old : Values) (id : ℕ) → new id ≡ old id → with_value own (Some value) new id ≡ with_value own (Some value) old id
+given_same own value new old id same = by_test (id == own)
+  where
+    by_test : (b : Bool) → (if b then Some value else new id) ≡ (if b then Some value else old id)
+    by_test true = refl
+    by_test false = same
+
+written_same : (variable place : ℕ) (words : List ℕ) (new old : Memory) (other at : ℕ) → new other at ≡ old other at → with_words variable place words new other at ≡ with_words variable place words old other at
+written_same variable place words new old other at same = by_test ((other == variable) && nat_le place at && nat_lt at (place + length words))
+  where
+    by_test : (b : Bool) → (if b then slice_index words (at - place) else new other at) ≡ (if b then slice_index words (at - place) else old other at)
+    by_test true = refl
+    by_test false = same
+
+-- an effect leads both to the same, with states that are the same again
+abbrev Behind : (ℕ → Bool) → Flow × State → Flow × State → Type 0
+Behind gone new old = (new.0 ≡ old.0) × AreSame gone new.1 old.1
+
+same_behind : (gone : ℕ → Bool) (inst : Inst) (new old : State) → AreSame gone new old → (effect : Effect) → Behind gone (after_effect inst new effect) (after_effect inst old effect)
+same_behind gone inst new old s Passes = (refl, same_counted gone new old s)
+same_behind gone inst new old s (Gives value) = (
+  refl,
+  record {
+    values = λ id stays. given_same (slice_index inst.words 1) value new.values old.values id (s.values id stays);
+    values_at_entry = s.values_at_entry;
+    memory = s.memory;
+    label = s.label;
+    before = s.before;
+    back_edges = s.back_edges;
+    steps = ap (λ (n : ℕ). n + 1) s.steps;
+  },
+)
+same_behind gone inst new old s (Writes variable place words) = (
+  refl,
+  record {
+    values = s.values;
+    values_at_entry = s.values_at_entry;
+    memory = λ other at stays. written_same variable place words new.memory old.memory other at (s.memory other at stays);
+    label = s.label;
+    before = s.before;
+    back_edges = s.back_edges;
+    steps = ap (λ (n : ℕ). n + 1) s.steps;
+  },
+)
+same_behind gone inst new old s (Enters label) =
+    (refl, record { values = s.values; values_at_entry = s.values; memory = s.memory; label = refl; before = s.label; back_edges = s.back_edges; steps = ap (λ (n : ℕ). n + 1) s.steps })
+same_behind gone inst new old s (Goes label) = (refl, same_counted gone new old s)
+same_behind gone inst new old s (Stops kind) = (refl, same_counted gone new old s)
+
+-- ---- labels
+
+le_shift : (to from to' from' before start : ℕ) → to' + before ≡ to + start → from' + before ≡ from + start → nat_le to' from' ≡ nat_le to from
+le_shift to from to' from' before start p q = grind (arith, nat_tests)
+
+label_parts : (label : ℕ) (inst : Inst) → is_label label inst ≡ true → (inst.op == op.LABEL ≡ true) × (slice_index inst.words 0 ≡ label)
+label_parts label inst is = by_tests (inst.op == op.LABEL) (slice_index inst.words 0 == label) refl refl is
+  where
+    by_tests : (a b : Bool) → inst.op == op.LABEL ≡ a → slice_index inst.words 0 == label ≡ b → (a && b) ≡ true → (inst.op == op.LABEL ≡ true) × (slice_index inst.words 0 ≡ label)
+    by_tests true true p q both = (p, eqb-true (slice_index inst.words 0) label q)
+    by_tests true false p q both = cc
+    by_tests false b p q both = cc
+
+module _ (words : Words) (v : IsValidList words) (gone : ℕ → Bool) (m : MayDrop words v gone) where
+  abbrev list : List Inst
+  list = dropped gone words.insts
+
+  abbrev p : Program
+  p = program_of (dropped gone words.insts)
+
+  abbrev q : Program
+  q = program_of words.insts
+
+  abbrev start : ℕ
+  start = dropped_before gone words.insts v.derivation
+
+  -- the old place of a label's in the new list
+  record LabelOf (label place : ℕ) : Type 0 where
+    old : ℕ
+    is : is_label label (inst_at words.insts old) ≡ true
+    there : dropped_left gone words.insts old ≡ place
+
+  label_from : (label place : ℕ) → place < length (dropped gone words.insts) → is_label label (inst_at (dropped gone words.insts) place) ≡ true → LabelOf label place
+  label_from label place within is =
+      let f = dropped_place gone words.insts place within in
+      let new_is = ap (is_label label) (sym f.inst) ∙ is in
+      let parts = label_parts label (entry_without gone (inst_at words.insts f.old)) new_is in
+      let op_is = ap (λ (o : ℕ). o == op.LABEL) (sym (entry_op gone (inst_at words.insts f.old))) ∙ parts.0 in
+      let same = entry_same gone (inst_at words.insts f.old) (another (λ (o : ℕ). o == op.LABEL) op.ENTRY_POINT refl (inst_at words.insts f.old).op op_is) in
+      record { old = f.old; is = ap (is_label label) (sym same) ∙ new_is; there = dropped_to gone words.insts place within f }
+
+  -- it stands as far behind OpFunction as it did
+  label_moved : (label k : ℕ) → first_label_place words.insts label ≡ Some k → first_label_place (dropped gone words.insts) label ≡ Some (dropped_left gone words.insts k)
+  label_moved label k is =
+      let f = found_at words.insts label k is in
+      let parts = label_parts label (inst_at words.insts k) f.1 in
+      let inside = stands_inside words v k op.LABEL label_inside (eqb-true (inst_at words.insts k).op op.LABEL parts.0) in
+      let low = inside.0 in
+      let stays = function_stays words v gone m k (omega (arith, low)) f.0 in
+      let there = kept_place gone words.insts k f.0 stays in
+      let same = entry_same gone (inst_at words.insts k) (another (λ (o : ℕ). o == op.LABEL) op.ENTRY_POINT refl (inst_at words.insts k).op parts.0) in
+      first_at (dropped gone words.insts) label (dropped_left gone words.insts k) there.within (ap (is_label label) (there.inst ∙ same) ∙ f.1)
+      (λ j less. refuted (is_label label (inst_at (dropped gone words.insts) j)) (λ also.
+      let w = there.within in
+      let l = label_from label j (omega (arith, less, w)) also in
+      let own = label_parts label (inst_at words.insts l.old) l.is in
+      let twice = labels_once words v l.old k own.0 parts.0 (own.1 ∙ sym parts.1) in
+      let e = sym (ap (dropped_left gone words.insts) twice) ∙ l.there in
+      omega (arith, e, less)))
+    where
+      refuted : (b : Bool) → (b ≡ true → ⊥) → b ≡ false
+      refuted true isnt = absurd (isnt refl)
+      refuted false isnt = refl
+
+  label_shifted : (label k : ℕ) → first_label_place words.insts label ≡ Some k → dropped_left gone words.insts k + v.derivation.before ≡ k + dropped_before gone words.insts v.derivation
+  label_shifted label k is =
+      let f = found_at words.insts label k is in
+      let parts = label_parts label (inst_at words.insts k) f.1 in
+      let low = (stands_inside words v k op.LABEL label_inside (eqb-true (inst_at words.insts k).op op.LABEL parts.0)).0 in
+      let within = f.0 in
+      let n = k - v.derivation.before in
+      let e : v.derivation.before + n ≡ k = omega (arith, low) in
+      let there = sym (ap (dropped_left gone words.insts) e) ∙ function_left words v gone m n (omega (arith, e, within)) in
+      omega (arith, there, e)
