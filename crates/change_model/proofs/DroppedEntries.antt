@@ -263,7 +263,7 @@ no_count : (o : Option ℕ) → option_map fault.EntryCount o ≡ None → o ≡
 no_count None h = refl
 no_count (Some n) h = cc
 
-one_entry : (words : Words) → IsValidList words → is_one_entry (function_id words.insts) (entry_points words.insts) ≡ true
+pub one_entry : (words : Words) → IsValidList words → is_one_entry (function_id words.insts) (entry_points words.insts) ≡ true
 unfolding list_fault bad_entry_count
 one_entry words v =
     passes (is_one_entry (function_id words.insts) (entry_points words.insts)) (no_count (bad_entry_count words.insts) (none_first (option_map fault.EntryCount (bad_entry_count words.insts)) _ v.faultless))

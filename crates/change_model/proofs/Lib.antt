@@ -282,5 +282,6 @@ pub mod StayingUses
 pub mod DroppedOperands
 pub mod DroppedUses
 pub mod DroppedInterface
+pub mod DroppedValid
 pub mod DroppedJudged
 pub mod DroppedSound
