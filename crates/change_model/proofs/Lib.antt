@@ -283,5 +283,6 @@ pub mod DroppedOperands
 pub mod DroppedUses
 pub mod DroppedInterface
 pub mod DroppedValid
+pub mod DroppedSlots
 pub mod DroppedJudged
 pub mod DroppedSound
