@@ -274,6 +274,8 @@ pub mod DroppedFacts
 pub mod DroppedEntries
 pub mod DroppedTypes
 pub mod DroppedConstants
+pub mod DroppedJudged
+pub mod DroppedSound
 pub mod DroppedWritable
 pub mod FunctionBehind
 pub mod DroppedFunction
@@ -284,5 +286,3 @@ pub mod DroppedUses
 pub mod DroppedInterface
 pub mod DroppedValid
 pub mod DroppedSlots
-pub mod DroppedJudged
-pub mod DroppedSound
