@@ -78,7 +78,7 @@ pointee_slot : (new old : ModuleFacts) → SaySame new old → (to : Option ℕ)
 pointee_slot new old s None = refl
 pointee_slot new old s (Some to) = slot_shape (new.meaning to) ∙ ap slot_by (s.shape to) ∙ sym (slot_shape (old.meaning to))
 
-held_slot : (new old : ModuleFacts) → SaySame new old → (type : ℕ) → slot_in (held_type new type) ≡ slot_in (held_type old type)
+pub held_slot : (new old : ModuleFacts) → SaySame new old → (type : ℕ) → slot_in (held_type new type) ≡ slot_in (held_type old type)
 held_slot new old s type =
     ap (λ (to : Option ℕ). slot_in (pointee new to)) (pointee_shape (new.meaning type) ∙ ap pointee_by (s.shape type) ∙ sym (pointee_shape (old.meaning type)))
     ∙ pointee_slot new old s (pointee_id (old.meaning type))

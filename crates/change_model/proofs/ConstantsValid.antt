@@ -77,10 +77,10 @@ entries_same f s insts =
 no_variable_at : (facts : ModuleFacts) (storage location : ℕ) (inst : Inst) → inst.op == op.VARIABLE ≡ false → is_variable_at facts storage location inst ≡ false
 no_variable_at facts storage location inst isnt = rw isnt refl
 
-pub flat_by : ModuleFacts → List Inst → Option ℕ
+flat_by : ModuleFacts → List Inst → Option ℕ
 flat_by facts insts = if is_vertex facts then None else lowest_location (has_smooth_input facts insts)
 
-pub flat_is : (insts : List Inst) → not_flat insts ≡ flat_by (hidden (facts_of insts)) insts
+flat_is : (insts : List Inst) → not_flat insts ≡ flat_by (hidden (facts_of insts)) insts
 unfolding not_flat flat_by hidden
 flat_is insts = refl
 
@@ -96,10 +96,10 @@ flat_same f s words sound =
     ∙ ap (λ (t : ℕ → Bool). if is_vertex (hidden (facts_of insts)) then None else lowest_location t) (smooth_same f s (hidden (facts_of insts)) insts)
     ∙ sym (flat_is insts)
 
-pub twice_by : ModuleFacts → List Inst → Option ℕ
+twice_by : ModuleFacts → List Inst → Option ℕ
 twice_by facts insts = lowest_location (λ location. are_two facts insts storage_class.INPUT location || are_two facts insts storage_class.OUTPUT location)
 
-pub twice_is : (insts : List Inst) → location_twice insts ≡ twice_by (hidden (facts_of insts)) insts
+twice_is : (insts : List Inst) → location_twice insts ≡ twice_by (hidden (facts_of insts)) insts
 unfolding location_twice twice_by hidden
 twice_is insts = refl
 

@@ -86,11 +86,11 @@ found_none p q so (n ∷ list) none = by_test (q n) refl none (found_none p q so
 
 -- ---- variables at a location
 
-decorated_left : (words : Words) (v : IsValidList words) (gone : ℕ → Bool) → MayDrop words v gone → (id decoration : ℕ)
+pub decorated_left : (words : Words) (v : IsValidList words) (gone : ℕ → Bool) → MayDrop words v gone → (id decoration : ℕ)
     → (facts_of (dropped gone words.insts)).decoration id decoration ≡ (if gone id then None else (facts_of words.insts).decoration id decoration)
 decorated_left words v gone m id decoration = ap (λ (d : ℕ → ℕ → Option ℕ). d id decoration) (facts_dropped words v gone m).decoration
 
-no_variable : (facts : ModuleFacts) (storage location : ℕ) (inst : Inst) → inst.op == op.VARIABLE ≡ false → is_variable_at facts storage location inst ≡ false
+pub no_variable : (facts : ModuleFacts) (storage location : ℕ) (inst : Inst) → inst.op == op.VARIABLE ≡ false → is_variable_at facts storage location inst ≡ false
 no_variable facts storage location inst isnt = rw isnt refl
 
 -- a variable that is there was there, and is as smooth as it was
@@ -125,7 +125,7 @@ there_before words v gone m storage location inst passes = by_entry (inst.op == 
         (sym (ap (λ (o : Option ℕ). is_variable_of storage inst && is_word location o) (decorated_left words v gone m (word_at 1 inst) LOCATION)) ∙ sym (ap (is_variable_at new storage location) same) ∙ passes) in
         (r.0, ap (is_smooth new) same ∙ r.1)
 
-sifts : (gone : ℕ → Bool) (insts : List Inst) → sifted (is_dropped gone) (entry_without gone) insts ≡ dropped gone insts
+pub sifts : (gone : ℕ → Bool) (insts : List Inst) → sifted (is_dropped gone) (entry_without gone) insts ≡ dropped gone insts
 unfolding dropped
 sifts gone insts = refl
 

@@ -290,6 +290,8 @@ pub mod DroppedFacts
 pub mod DroppedEntries
 pub mod DroppedTypes
 pub mod DroppedConstants
+pub mod DroppedJudged
+pub mod DroppedSound
 pub mod DroppedWritable
 pub mod FunctionBehind
 pub mod DroppedFunction
@@ -302,3 +304,5 @@ pub mod DroppedJudged
 pub mod DroppedSound
 pub mod PartReads
 pub mod DroppedRuns
+pub mod DroppedValid
+pub mod DroppedSlots

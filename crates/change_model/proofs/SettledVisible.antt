@@ -92,7 +92,7 @@ definition_behind (inst ∷ insts) (suc n) id within late = by_test (gives id in
 
 -- ---- what is defined before the function
 
-pub kept_front : (insts : List Inst) (d : Derives insts) (a b : ℕ) → a < d.before + 1 → keeps (intervals_of d) a b ≡ true
+kept_front : (insts : List Inst) (d : Derives insts) (a b : ℕ) → a < d.before + 1 → keeps (intervals_of d) a b ≡ true
 kept_front insts d a b less = kept_outside (d.before + 1) d.after (intervals_of d) (lie_around (d.before + 1) d.after (inside d.sequence) (lies insts d.sequence)) a b (inl less)
 
 -- at a place up to the function's first label what is defined earlier is visible
