@@ -10,7 +10,9 @@ use Rattle.limits.specs.declared.TheConstants.{BACK_EDGES}
 use Rattle.spirv_model.specs.declared.module.Inst.{Inst}
 use Rattle.spirv_model.specs.declared.module.Words.{Words}
 use Rattle.spirv_model.specs.declared.op.TheConstants as op
-use Rattle.spirv_model.specs.Operands.{word_at, words_from, entry_of, class_of, kinds, ids}
+use Rattle.spirv_model.specs.Operands.{word_at, words_from, ids_among, ids_by, entry_of, class_of, kinds, ids}
+use Rattle.spirv_model.specs.declared.table.Operand.{Operand}
+use Rattle.spirv_model.specs.declared.table.Operand.TheVariants.{IdResultType, IdResult, IdRef}
 use Rattle.body_model.specs.Switches.{is_among}
 use Rattle.valid_model.specs.Definitions.{definition, inst_at, no_instruction}
 use Rattle.check_model.specs.Intervals.{intervals_of}
@@ -28,10 +30,15 @@ use Rattle.typed_model.proofs.PlainRuns.{at_op}
 use Rattle.typed_model.proofs.ReadTypes.{Each}
 use Rattle.change_model.specs.Dropping.{entry_without, dropped, dropped_words, MayDrop}
 use Rattle.change_model.proofs.ChangedLabels.{found_at, first_at}
-use Rattle.change_model.proofs.DroppedPlaces.{dropped_left, DroppedPlace, dropped_place, dropped_to, kept_place, entry_same, entry_op, function_stays, dropped_before, function_inst, function_left, function_length}
-use Rattle.change_model.proofs.FoundUses.{label_inside, stands_inside}
+use Rattle.change_model.proofs.DroppedPlaces.{dropped_left, DroppedPlace, dropped_place, dropped_to, kept_place, entry_same, entry_op, function_stays, no_entry_behind, dropped_before, function_inst, function_left, function_length}
+use Rattle.change_model.proofs.FoundUses.{label_inside, chain_inside, stands_inside}
 use Rattle.change_model.proofs.LeftPlacedWhole.{labels_once}
+use Rattle.change_model.specs.PlanRules.{root_by, root_of}
+use Rattle.typed_model.proofs.UsedReads.{IsRead}
+use Rattle.typed_model.proofs.ValidModules.{valid_sound}
+use Rattle.change_model.proofs.PartReads.{part_uses}
 use Rattle.change_model.proofs.PhiPairsLeft.{In}
+use Rattle.change_model.proofs.UsesAmongIds.{used_in_ids, value_in_ids}
 
 -- ---- what phis read
 
@@ -170,6 +177,40 @@ same_behind gone inst new old s (Enters label) =
 same_behind gone inst new old s (Goes label) = (refl, same_counted gone new old s)
 same_behind gone inst new old s (Stops kind) = (refl, same_counted gone new old s)
 
+none_among : (gone : ℕ → Bool) (id : ℕ) (list : List ℕ) → list_any gone list ≡ false → is_among id list ≡ true → gone id ≡ false
+none_among gone id [] none among = cc
+none_among gone id (own ∷ list) none among = by_tests (gone own) (own == id) refl refl none among (none_among gone id list)
+  where
+    by_tests : (a b : Bool) → gone own ≡ a → own == id ≡ b → (a || list_any gone list) ≡ false → (b || is_among id list) ≡ true → (list_any gone list ≡ false → is_among id list ≡ true → gone id ≡ false) → gone id ≡ false
+    by_tests true b p q none among more = cc
+    by_tests false true p q none among more = ap gone (sym (eqb-true own id q)) ∙ p
+    by_tests false false p q none among more = more none among
+
+-- a chain names its base
+third : (a b base : ℕ) (rest : Bool) → ((a == base) || ((b == base) || ((base == base) || rest))) ≡ true
+third a b base rest = by_tests (a == base) (b == base) (base == base) (eq-eqb base base refl)
+  where
+    by_tests : (x y z : Bool) → z ≡ true → (x || (y || (z || rest))) ≡ true
+    by_tests true y z is = refl
+    by_tests false true z is = refl
+    by_tests false false z is = rw is refl
+
+base_among : (a b base : ℕ) (words : List ℕ) (found : Option (List Operand))
+    → is_some (option_map (λ (k : List Operand). IdResultType ∷ k) (option_map (λ (k : List Operand). IdResult ∷ k) (option_map (λ (k : List Operand). IdRef ∷ k) found))) ≡ true
+    → is_among base (ids_by (option_map (λ (k : List Operand). IdResultType ∷ k) (option_map (λ (k : List Operand). IdResult ∷ k) (option_map (λ (k : List Operand). IdRef ∷ k) found))) (a ∷ b ∷ base ∷ words)) ≡ true
+base_among a b base words None has = cc
+base_among a b base words (Some found) has = third a b base (is_among base (ids_among found words))
+
+chain_words : (words : List ℕ) → is_some (kinds (instruction op.ACCESS_CHAIN words)) ≡ true → is_among (word_at 2 (instruction op.ACCESS_CHAIN words)) (ids (instruction op.ACCESS_CHAIN words)) ≡ true
+unfolding kinds ids entry_of
+chain_words [] has = cc
+chain_words (a ∷ []) has = cc
+chain_words (a ∷ b ∷ []) has = cc
+chain_words (a ∷ b ∷ base ∷ words) has = base_among a b base words _ has
+
+chain_names : (inst : Inst) → inst.op == op.ACCESS_CHAIN ≡ true → is_some (kinds inst) ≡ true → is_among (word_at 2 inst) (ids inst) ≡ true
+chain_names inst is = at_op (λ (i : Inst). is_some (kinds i) ≡ true → is_among (word_at 2 i) (ids i) ≡ true) inst op.ACCESS_CHAIN is (chain_words inst.words)
+
 -- ---- labels
 
 le_shift : (to from to' from' before start : ℕ) → to' + before ≡ to + start → from' + before ≡ from + start → nat_le to' from' ≡ nat_le to from
@@ -244,3 +285,51 @@ module _ (words : Words) (v : IsValidList words) (gone : ℕ → Bool) (m : MayD
       let e : v.derivation.before + n ≡ k = omega (arith, low) in
       let there = sym (ap (dropped_left gone words.insts) e) ∙ function_left words v gone m n (omega (arith, e, within)) in
       omega (arith, there, e)
+
+  -- ---- an instruction
+
+  -- nothing that an instruction of the function names goes
+  named_stays : (place : ℕ) → v.derivation.before + 1 ≤ place → place < v.derivation.after → (id : ℕ) → is_among id (ids (inst_at words.insts place)) ≡ true → gone id ≡ false
+  named_stays place low high id among =
+      let within = function_within words.insts v.derivation place high in
+      none_among gone id (ids (inst_at words.insts place))
+      (m.unused place (function_stays words v gone m place (omega (arith, low)) within) (no_entry_behind words.insts v.derivation place (omega (arith, low)) within)) among
+
+  used_stays : (place : ℕ) → v.derivation.before + 1 ≤ place → place < v.derivation.after → Each (λ id. gone id ≡ false) (used_ids (inst_at words.insts place))
+  used_stays place low high =
+      let within = function_within words.insts v.derivation place high in
+      of_all (λ id. gone id ≡ false) (used_ids (inst_at words.insts place))
+      (λ id among. named_stays place low high id (used_in_ids id (inst_at words.insts place) ((valid_sound words v).shaped place within) among))
+
+  -- nor what it reads
+  read_stays : (place before : ℕ) → v.derivation.before + 1 ≤ place → place < v.derivation.after → Each (λ id. gone id ≡ false) (read_ids (inst_at words.insts place).op before (inst_at words.insts place).words)
+  read_stays place before low high = by_phi ((inst_at words.insts place).op == op.PHI) refl
+    where
+      inst : Inst
+      inst = inst_at words.insts place
+
+      phi_stays : (inst : Inst) → inst.op == op.PHI ≡ true → ((pair : Incoming) → In pair (incoming inst) → gone pair.value ≡ false) → Each (λ id. gone id ≡ false) (read_ids inst.op before inst.words)
+      phi_stays inst is all =
+          at_op (λ (i : Inst). ((pair : Incoming) → In pair (incoming i) → gone pair.value ≡ false) → Each (λ id. gone id ≡ false) (read_ids i.op before i.words)) inst op.PHI is
+          (λ all. subst (Each (λ id. gone id ≡ false)) (sym (phi_reads before inst.words)) (each_paired (λ id. gone id ≡ false) before (drop 2 inst.words) all)) all
+
+      by_phi : (b : Bool) → (inst_at words.insts place).op == op.PHI ≡ b → Each (λ id. gone id ≡ false) (read_ids (inst_at words.insts place).op before (inst_at words.insts place).words)
+      by_phi true is = phi_stays inst is (λ pair has. named_stays place low high pair.value (value_in_ids inst is ((valid_sound words v).shaped place (function_within words.insts v.derivation place high)) pair has))
+      by_phi false isnt = map_each (λ id r. r.used) _ (part_uses (λ id. gone id ≡ false) words v place before low high isnt (used_stays place low high))
+
+  -- the variable that a pointer leads into that an instruction reads
+  root_stays : (place id : ℕ) → v.derivation.before + 1 ≤ place → place < v.derivation.after → gone id ≡ false → gone (root_of words.insts id) ≡ false
+  unfolding root_of
+  root_stays place id low high stays = by_definition (definition words.insts id) refl
+    where
+      by_chain : (at : ℕ) → (b : Bool) → (inst_at words.insts at).op == op.ACCESS_CHAIN ≡ b → gone (if b then word_at 2 (inst_at words.insts at) else id) ≡ false
+      by_chain at false isnt = stays
+      by_chain at true is =
+          let w = stands_inside words v at op.ACCESS_CHAIN chain_inside (eqb-true (inst_at words.insts at).op op.ACCESS_CHAIN is) in
+          let low = w.0 in
+          named_stays at (omega (arith, low)) w.1 (word_at 2 (inst_at words.insts at))
+          (chain_names (inst_at words.insts at) is ((valid_sound words v).shaped at (function_within words.insts v.derivation at w.1)))
+
+      by_definition : (found : Option ℕ) → definition words.insts id ≡ found → gone (root_by words.insts id found) ≡ false
+      by_definition None defined = stays
+      by_definition (Some at) defined = by_chain at ((inst_at words.insts at).op == op.ACCESS_CHAIN) refl

@@ -300,8 +300,6 @@ pub mod StayingUses
 pub mod DroppedOperands
 pub mod DroppedUses
 pub mod DroppedInterface
-pub mod DroppedJudged
-pub mod DroppedSound
 pub mod PartReads
 pub mod DroppedRuns
 pub mod DroppedValid
