@@ -149,7 +149,7 @@ same_read gone new old opcode s id stays = by_test (opcode == op.PHI)
     by_test true = s.values_at_entry id stays
     by_test false = s.values id stays
 
-given_same : (own : ℕ) (value : Value) (new old : Values) (id : ℕ) → new id ≡ old id → with_value own (Some value) new id ≡ with_value own (Some value) old id
+pub given_same : (own : ℕ) (value : Value) (new old : Values) (id : ℕ) → new id ≡ old id → with_value own (Some value) new id ≡ with_value own (Some value) old id
 given_same own value new old id same = by_test (id == own)
   where
     by_test : (b : Bool) → (if b then Some value else new id) ≡ (if b then Some value else old id)

@@ -304,3 +304,5 @@ pub mod PartReads
 pub mod DroppedRuns
 pub mod DroppedValid
 pub mod DroppedSlots
+pub mod DroppedValues
+pub mod DroppedStarts
