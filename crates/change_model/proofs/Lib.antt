@@ -306,3 +306,4 @@ pub mod DroppedValid
 pub mod DroppedSlots
 pub mod DroppedValues
 pub mod DroppedStarts
+pub mod DroppedMemory
