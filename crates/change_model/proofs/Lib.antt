@@ -307,3 +307,5 @@ pub mod DroppedSlots
 pub mod DroppedValues
 pub mod DroppedStarts
 pub mod DroppedMemory
+pub mod DroppedLeft
+pub mod DroppedDoes
