@@ -267,3 +267,4 @@ pub mod FoundWhole
 pub mod SlotsThere
 pub mod UnfedInputs
 pub mod OptimisedFits
+pub mod ShortWords
