@@ -44,7 +44,7 @@ fn parts(words: &[u32]) -> (&[u32], &[u32])
 fn module_of(alloc: Global, words: &[u32]) -> Result<Module, Memory>
     requires { AreOfModule words.now }
     ensures { (own : Words) → IsValidList own → words.now ≡ words_of own
-        → IfOk result (λ module. module ≡ own) }
+        → IfOk result (λ made. made ≡ own) }
 {
     match check(alloc, words) {
         Ok(module) => Ok(module),
