@@ -1,28 +1,11 @@
 -- The parts of a record, and the modules that they are.
-use Rattle.std.proofs.Common.{◌≡◌, ℕ, suc, ◌<◌, ◌≤◌, List, [], ◌∷◌, ◌++◌, length, take, drop, slice_index, refl, ap, sym, ◌∙◌, subst, arith, length-append, Option, None, Some}
+use Rattle.std.proofs.Common.{◌≡◌, ℕ, ◌==◌, Bool, true, false, List, [], ◌∷◌, length, refl, ap, sym, ◌∙◌, arith, Option, None, Some}
 use Rattle.std.specs.Prelude.{IfSome}
-use Rattle.std.proofs.Math.Seq.{take-append_seam, drop-append_seam}
+use Rattle.std.proofs.lemmas.Bool.Decides.{nat_tests}
 use Rattle.spirv_model.specs.declared.module.Words.{Words}
 use Rattle.check_model.specs.Validity.{IsValidList}
-use Rattle.unit_model.specs.Fits.{words_of, words_there, record_of}
-use Rattle.unit_records.specs.Records.{IsRecord, HasModules, AreOfModule}
-
--- the first counts are there
-pub two_there : (words : List ℕ) → HasModules words → 2 ≤ length words
-two_there words has = subst (λ (ws : List ℕ). 2 ≤ length ws) (sym has.are.is) (omega arith)
-
--- behind them stand at least as many words as the first one says
-pub part_within : (words : List ℕ) → HasModules words → slice_index (take 2 words) 0 ≤ length (drop 2 words)
-part_within words has =
-    subst (λ (ws : List ℕ). slice_index (take 2 ws) 0 ≤ length (drop 2 ws)) (sym has.are.is)
-    (omega (arith, length-append (words_of has.vs) (words_there has.fs)))
-
--- the two parts
-pub first_part : (words vs fs : List ℕ) → words ≡ record_of vs fs → take (slice_index (take 2 words) 0) (drop 2 words) ≡ vs
-first_part words vs fs is = ap (λ (ws : List ℕ). take (slice_index (take 2 ws) 0) (drop 2 ws)) is ∙ take-append_seam vs fs
-
-pub second_part : (words vs fs : List ℕ) → words ≡ record_of vs fs → drop (slice_index (take 2 words) 0) (drop 2 words) ≡ fs
-second_part words vs fs is = ap (λ (ws : List ℕ). drop (slice_index (take 2 ws) 0) (drop 2 ws)) is ∙ drop-append_seam vs fs
+use Rattle.unit_model.specs.Fits.{words_of, words_there}
+use Rattle.unit_records.specs.Records.{HasModules, AreOfModule}
 
 -- ---- the modules
 
@@ -50,3 +33,18 @@ pub some_there : (part : List ℕ) (fs : Option Words) (read : Words) → IfSome
     → ((own : Words) → IsValidList own → part ≡ words_of own → read ≡ own) → Some read ≡ fs
 some_there part None read valid is full each = absurd (full is)
 some_there part (Some fs) read valid is full each = ap (λ (own : Words). Some own) (each fs valid is)
+
+-- ---- whether a part has words
+
+pub is_full : (part : List ℕ) (empty : Bool) → empty ≡ (length part == 0) → empty ≡ false → part ≡ [] → ⊥
+is_full part empty is isnt none = never (sym isnt ∙ is ∙ ap (λ (ws : List ℕ). length ws == 0) none)
+  where
+    never : false ≡ true → ⊥
+    never same = cc
+
+is_zero : (n : ℕ) → n == 0 ≡ true → n ≡ 0
+is_zero n is = grind (arith, nat_tests)
+
+pub none_read : (part : List ℕ) (fs : Option Words) (empty : Bool) → empty ≡ (length part == 0) → empty ≡ true → part ≡ words_there fs → ◌≡◌ {A = Option Words} None fs
+none_read [] fs empty is there of = none_there fs of
+none_read (word ∷ part) fs empty is there of = absurd (omega (arith, is_zero (length (word ∷ part)) (sym is ∙ there)))

@@ -26,7 +26,11 @@ pub fn unit_of_record(alloc: Global, words: &[u32]) -> Result<Unit, Memory>
 {
     let (vs, fs) = parts(words);
     let vs = module_of(alloc, vs)?;
-    let fs = if fs.is_empty() { None } else { Some(module_of(alloc, fs)?) };
+    let fs = if fs.is_empty() {
+        None
+    } else {
+        Some(module_of(alloc, fs)?)
+    };
     Ok(Unit { vs, fs })
 }
 
