@@ -309,3 +309,4 @@ pub mod DroppedStarts
 pub mod DroppedMemory
 pub mod DroppedLeft
 pub mod DroppedDoes
+pub mod ShortWords
