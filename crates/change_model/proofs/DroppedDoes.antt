@@ -41,7 +41,7 @@ values_first insts given first = ap (λ (l : List Inst). defined_by (program_of 
 
 module _ (words : Words) (v : IsValidList words) (gone : ℕ → Bool) (m : MayDrop words v gone) where
   -- OpFunction stands where it comes to stand
-  function_moved : (new : IsValidList (dropped_words gone words)) → new.derivation.before ≡ dropped_before gone words.insts v.derivation
+  pub function_moved : (new : IsValidList (dropped_words gone words)) → new.derivation.before ≡ dropped_before gone words.insts v.derivation
   function_moved new =
       let b = body_dropped words v gone m new.sound in
       sym (function_is (dropped gone words.insts) new.derivation) ∙ function_is (dropped gone words.insts) b.derivation ∙ b.before

@@ -310,3 +310,4 @@ pub mod DroppedMemory
 pub mod DroppedLeft
 pub mod DroppedDoes
 pub mod ShortWords
+pub mod DroppedReduced
