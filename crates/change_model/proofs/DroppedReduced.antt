@@ -35,18 +35,18 @@ use Rattle.change_model.proofs.SameFacts.{TellsTypes, same_told}
 use Rattle.change_model.proofs.Sifted.{sifted_cons, sifted_gone}
 use Rattle.change_model.proofs.SweptPlaces.{place_in_function, any_function_place}
 
-first : (a b : Bool) → (a && b) ≡ true → a ≡ true
+pub first : (a b : Bool) → (a && b) ≡ true → a ≡ true
 first true b is = refl
 first false b is = cc
 
-second : (a b : Bool) → (a && b) ≡ true → b ≡ true
+pub second : (a b : Bool) → (a && b) ≡ true → b ≡ true
 second true b is = is
 second false b is = cc
 
-both : (a b : Bool) → a ≡ true → b ≡ true → (a && b) ≡ true
+pub both : (a b : Bool) → a ≡ true → b ≡ true → (a && b) ≡ true
 both a b p q = rw p q
 
-none_some : {Q : Type 0} {A : Type 0} {a : A} → ◌≡◌ {A = Option A} None (Some a) → Q
+pub none_some : {Q : Type 0} {A : Type 0} {a : A} → ◌≡◌ {A = Option A} None (Some a) → Q
 none_some is = cc
 
 -- ---- what holds at each place of a function
@@ -118,7 +118,7 @@ null_tells : TellsTypes null_scalar
 null_tells = record { constant = λ type. refl; variable = λ type class. refl; value = λ type. refl; label = refl; other = refl }
 
 module _ (words : Words) (v : IsValidList words) (gone : ℕ → Bool) (m : MayDrop words v gone) where
-  abbrev new : Derives (dropped gone words.insts)
+  abbrev pub new : Derives (dropped gone words.insts)
   new = (dropped_valid words v gone m).derivation
 
   scalar_same : (inst : Inst) → inst.op == op.ENTRY_POINT ≡ false → scalar_by (dropped gone words.insts) (entry_without gone inst) ≡ scalar_by words.insts inst
@@ -127,7 +127,7 @@ module _ (words : Words) (v : IsValidList words) (gone : ℕ → Bool) (m : MayD
       ∙ (rw (same_told null_scalar null_tells (meaning (dropped gone words.insts) (word_at 0 inst)) (meaning words.insts (word_at 0 inst)) (shapes_dropped words v gone m (word_at 0 inst))) refl)
 
   -- a constant that is left is the scalar that it was
-  constant_was : (id : ℕ) (scalar : Scalar) → constant_scalar (dropped gone words.insts) id ≡ Some scalar → constant_scalar words.insts id ≡ Some scalar
+  pub constant_was : (id : ℕ) (scalar : Scalar) → constant_scalar (dropped gone words.insts) id ≡ Some scalar → constant_scalar words.insts id ≡ Some scalar
   unfolding constant_scalar
   constant_was id scalar is = by_gone (gone id) refl
     where
@@ -143,7 +143,7 @@ module _ (words : Words) (v : IsValidList words) (gone : ℕ → Bool) (m : MayD
       by_gone false stays =
           by_definition stays (definition words.insts id) refl (ap (option_and_then (λ place. scalar_by (dropped gone words.insts) (inst_at (dropped gone words.insts) place))) (sym (definition_kept gone words.insts id stays)) ∙ is)
 
-  scalar_was : (id : ℕ) → is_constant_scalar (dropped gone words.insts) id ≡ true → is_constant_scalar words.insts id ≡ true
+  pub scalar_was : (id : ℕ) → is_constant_scalar (dropped gone words.insts) id ≡ true → is_constant_scalar words.insts id ≡ true
   scalar_was id is = by_found (constant_scalar (dropped gone words.insts) id) refl is
     where
       by_found : (found : Option Scalar) → constant_scalar (dropped gone words.insts) id ≡ found → is_some found ≡ true → is_some (constant_scalar words.insts id) ≡ true
@@ -152,17 +152,17 @@ module _ (words : Words) (v : IsValidList words) (gone : ℕ → Bool) (m : MayD
 
   -- ---- places
 
-  moved : new.before ≡ dropped_before gone words.insts v.derivation
+  pub moved : new.before ≡ dropped_before gone words.insts v.derivation
   moved = function_moved words v gone m (dropped_valid words v gone m)
 
   -- behind OpFunction the same stands so many places sooner
-  abbrev far : ℕ
+  abbrev pub far : ℕ
   far = v.derivation.before - dropped_before gone words.insts v.derivation
 
-  fewer : dropped_before gone words.insts v.derivation ≤ v.derivation.before
+  pub fewer : dropped_before gone words.insts v.derivation ≤ v.derivation.before
   fewer = function_sooner gone words.insts v.derivation
 
-  inst_behind : (place : ℕ) → dropped_before gone words.insts v.derivation ≤ place → inst_at (dropped gone words.insts) place ≡ inst_at words.insts (place + far)
+  pub inst_behind : (place : ℕ) → dropped_before gone words.insts v.derivation ≤ place → inst_at (dropped gone words.insts) place ≡ inst_at words.insts (place + far)
   inst_behind place low =
       let f = fewer in
       let start = dropped_before gone words.insts v.derivation in
@@ -170,7 +170,7 @@ module _ (words : Words) (v : IsValidList words) (gone : ℕ → Bool) (m : MayD
       ap (inst_at (dropped gone words.insts)) {x = place} {y = start + n} (omega (arith, low)) ∙ function_inst words v gone m n ∙ ap (inst_at words.insts) {x = v.derivation.before + n} {y = place + far} (omega (arith, low, f))
 
   -- what fails at each old place fails at each new one
-  places_fail : (p p' : ℕ → Bool) → ((place : ℕ) → dropped_before gone words.insts v.derivation < place → p' place ≡ true → p (place + far) ≡ true) → list_all (λ place. not (p place)) (function_places words.insts) ≡ true
+  pub places_fail : (p p' : ℕ → Bool) → ((place : ℕ) → dropped_before gone words.insts v.derivation < place → p' place ≡ true → p (place + far) ≡ true) → list_all (λ place. not (p place)) (function_places words.insts) ≡ true
       → list_all (λ place. not (p' place)) (function_places (dropped gone words.insts)) ≡ true
   places_fail p p' same all = all_places (dropped gone words.insts) new (λ place. not (p' place)) (λ place less within.
       let e = moved in

@@ -311,3 +311,4 @@ pub mod DroppedLeft
 pub mod DroppedDoes
 pub mod ShortWords
 pub mod DroppedReduced
+pub mod DroppedStraight
