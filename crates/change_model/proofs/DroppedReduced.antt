@@ -93,7 +93,7 @@ special_left gone inst = by_entry (inst.op == op.ENTRY_POINT) refl
     by_entry true is = let e = eqb-true inst.op op.ENTRY_POINT is in none (entry_without gone inst) (entry_op gone inst ∙ e) ∙ sym (none inst e)
     by_entry false isnt = ap is_specialization (entry_same gone inst isnt)
 
-specialized_dropped : (gone : ℕ → Bool) (insts : List Inst) → is_specialized insts ≡ true → is_specialized (dropped gone insts) ≡ true
+pub specialized_dropped : (gone : ℕ → Bool) (insts : List Inst) → is_specialized insts ≡ true → is_specialized (dropped gone insts) ≡ true
 unfolding dropped
 specialized_dropped gone [] all = refl
 specialized_dropped gone (inst ∷ insts) all = by_test (is_dropped gone inst) refl (specialized_dropped gone insts (second (not (is_specialization inst)) (is_specialized insts) all))
@@ -190,7 +190,7 @@ module _ (words : Words) (v : IsValidList words) (gone : ℕ → Bool) (m : MayD
 
   -- ---- operations
 
-  folded_dropped : is_folded words.insts ≡ true → is_folded (dropped gone words.insts) ≡ true
+  pub folded_dropped : is_folded words.insts ≡ true → is_folded (dropped gone words.insts) ≡ true
   folded_dropped all = places_fail (λ place. is_foldable words.insts (inst_at words.insts place)) (λ place. is_foldable (dropped gone words.insts) (inst_at (dropped gone words.insts) place))
       (λ place less is. was (inst_at words.insts (place + far)) (ap (is_foldable (dropped gone words.insts)) (sym (inst_behind place (omega (arith, less)))) ∙ is)) all
     where

@@ -312,3 +312,4 @@ pub mod DroppedDoes
 pub mod ShortWords
 pub mod DroppedReduced
 pub mod DroppedStraight
+pub mod DroppedUsed
