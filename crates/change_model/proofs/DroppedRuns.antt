@@ -1,6 +1,6 @@
 -- The machine of a list from which variables and constants are dropped follows that of the list before: it stands as far behind OpFunction, and
 -- what stays has the same values and words.
-use Rattle.std.proofs.Common.{◌≡◌, ℕ, zero, suc, ◌+◌, ◌-◌, ◌<◌, ◌≤◌, ◌==◌, ◌&&◌, ◌||◌, Bool, true, false, not, nat_le, nat_lt, if◌then◌else◌, List, [], ◌∷◌, length, take, drop, slice_index, refl, ap, sym, ◌∙◌, subst, arith, inl, inr, Option, None, Some, is_some}
+use Rattle.std.proofs.Common.{◌≡◌, ℕ, zero, suc, ◌+◌, ◌-◌, ◌<◌, ◌≤◌, ◌==◌, ◌&&◌, ◌||◌, Bool, true, false, not, nat_le, nat_lt, if◌then◌else◌, List, [], ◌∷◌, length, take, drop, slice_index, slice_get, refl, ap, sym, ◌∙◌, subst, arith, inl, inr, Option, None, Some, is_some}
 use Rattle.std.specs.List.{list_any}
 use Rattle.std.specs.Option.{option_map, option_and_then}
 use Rattle.std.proofs.lemmas.Bool.{cases_lt, eqb-true, eq-eqb}
@@ -25,6 +25,27 @@ use Rattle.stage_model.specs.Effect.{Effect, Passes, Gives, Writes, Enters, Goes
 use Rattle.stage_model.specs.Machine.{State, Flow, Next, To, Stopped, Machine, Step, GoesOn, Ends, read_from, read_values, counted, after_effect, done, back_to, jump, led, at, step}
 use Rattle.typed_model.proofs.BlockParts.{another, clash}
 use Rattle.typed_model.proofs.EffectsRun.{instruction}
+use Rattle.typed_model.proofs.InstructionsRun.{Does}
+use Rattle.typed_model.proofs.ReadValues.{IsSeen as IsUsed, uses_seen}
+use Rattle.change_model.proofs.EffectsAlike.{PointsAlike, AllPointAlike, HoldsAlike, FirstHoldsAlike, effect_alike}
+use Rattle.change_model.proofs.ChangedShapes.{shape_in}
+use Rattle.change_model.proofs.DroppedMeanings.{shapes_dropped}
+use Rattle.change_model.proofs.Followed.{same_insts}
+use Rattle.change_model.proofs.MachineSteps.{step_is, running_step, done_by_reads}
+use Rattle.change_model.proofs.PlanRunsPlain.{vector_shape, vector_by}
+use Rattle.change_model.proofs.PlanRunsReads.{IsReadAt}
+use Rattle.change_model.proofs.PlanRunsSilent.{read_rooted}
+use Rattle.typed_model.proofs.RunningDoes.{here_does}
+use Rattle.typed_model.proofs.StepsDone.{reads_now}
+use Rattle.stage_model.specs.declared.outcome.Kind.{Kind}
+use Rattle.stage_model.specs.declared.outcome.Kind.TheVariants.{Lost}
+use Rattle.stage_model.proofs.Comings.{one_step}
+use Rattle.stage_model.specs.Leads.{machine}
+use Rattle.stage_model.specs.Stage.{Outcome, outcome_of}
+use Rattle.stage_model.specs.Steps.{stays as rests}
+use Rattle.change_model.specs.Following.{Round, returns, ends, stops}
+use Rattle.change_model.proofs.PlanRuns.{IsSteady}
+use Rattle.change_model.proofs.PlanRunsSteady.{steady_on}
 use Rattle.typed_model.proofs.FunctionRuns.{function_within}
 use Rattle.typed_model.proofs.PlainRuns.{at_op}
 use Rattle.typed_model.proofs.ReadTypes.{Each}
@@ -35,7 +56,7 @@ use Rattle.change_model.proofs.FoundUses.{label_inside, chain_inside, stands_ins
 use Rattle.change_model.proofs.LeftPlacedWhole.{labels_once}
 use Rattle.change_model.specs.PlanRules.{root_by, root_of}
 use Rattle.typed_model.proofs.UsedReads.{IsRead}
-use Rattle.typed_model.proofs.ValidModules.{valid_sound}
+use Rattle.typed_model.proofs.ValidModules.{valid_seen, valid_sound}
 use Rattle.change_model.proofs.PartReads.{part_uses}
 use Rattle.change_model.proofs.PhiPairsLeft.{In}
 use Rattle.change_model.proofs.UsesAmongIds.{used_in_ids, value_in_ids}
@@ -128,7 +149,7 @@ same_read gone new old opcode s id stays = by_test (opcode == op.PHI)
     by_test true = s.values_at_entry id stays
     by_test false = s.values id stays
 
-given_same : (own : ℕ) (value : Value) (new old : Values) (id : ℕ) → new id ≡ old id → with_value own (Some value) new id ≡ with_value own (Some value) old id
+pub given_same : (own : ℕ) (value : Value) (new old : Values) (id : ℕ) → new id ≡ old id → with_value own (Some value) new id ≡ with_value own (Some value) old id
 given_same own value new old id same = by_test (id == own)
   where
     by_test : (b : Bool) → (if b then Some value else new id) ≡ (if b then Some value else old id)
@@ -333,3 +354,166 @@ module _ (words : Words) (v : IsValidList words) (gone : ℕ → Bool) (m : MayD
       by_definition : (found : Option ℕ) → definition words.insts id ≡ found → gone (root_by words.insts id found) ≡ false
       by_definition None defined = stays
       by_definition (Some at) defined = by_chain at ((inst_at words.insts at).op == op.ACCESS_CHAIN) refl
+
+  -- ---- both machines
+
+  -- the old machine is in the function, and the new one as far behind OpFunction; their states are the same in what stays
+  pub record Beside (a b : Machine) : Type 0 where
+    pub steady : IsSteady words v [] b
+    pub place : a.place + v.derivation.before ≡ b.place + dropped_before gone words.insts v.derivation
+    pub same : AreSame gone a.state b.state
+
+  shapes_alike : (type : ℕ) → shape_in ((program_of (dropped gone words.insts)).meaning type) ≡ shape_in ((program_of words.insts).meaning type)
+  unfolding program_of
+  shapes_alike type = shapes_dropped words v gone m type
+
+  module _ (layouts : (program_of (dropped gone words.insts)).layout ≡ (program_of words.insts).layout)
+      (held : (variable : ℕ) → gone variable ≡ false → held_layout (program_of (dropped gone words.insts)) variable ≡ held_layout (program_of words.insts) variable) (a b : Machine) (r : Beside a b) where
+    abbrev inst : Inst
+    inst = inst_at words.insts b.place
+
+    low : v.derivation.before + 1 ≤ b.place
+    low = r.steady.running.low
+
+    high : b.place < v.derivation.after
+    high = r.steady.running.high
+
+    there : slice_get (dropped gone words.insts) a.place ≡ Some (inst_at words.insts b.place)
+    there =
+        let l = low in let h = high in let e = r.place in
+        let long = function_length words v gone m in
+        let within = function_within words.insts v.derivation b.place high in
+        let n = b.place - v.derivation.before in
+        let at' : start + n ≡ a.place = omega (arith, l, e) in
+        let at : v.derivation.before + n ≡ b.place = omega (arith, l) in
+        slice_get-get_or (dropped gone words.insts) a.place no_instruction (omega (arith, long, within, e))
+        ∙ ap (λ (i : Inst). Some i) (ap (inst_at (dropped gone words.insts)) (sym at') ∙ function_inst words v gone m n ∙ ap (inst_at words.insts) at)
+
+    d : Does words.insts (read_from b.state inst.op) b.state.memory b.state.before inst
+    d = here_does words v b r.steady.running
+
+    new_read : read_values inst a.state ≡ Some d.read
+    unfolding read_values
+    new_read =
+        ap (λ (before : ℕ). all_values (read_from a.state inst.op) (read_ids inst.op before inst.words)) r.same.before
+        ∙ all_same (read_from a.state inst.op) (read_from b.state inst.op) (read_ids inst.op b.state.before inst.words)
+        (map_each (λ id stays. same_read gone a.state b.state inst.op r.same id stays) (read_ids inst.op b.state.before inst.words) (read_stays b.place b.state.before low high))
+        ∙ d.are
+
+    -- ---- the effect
+
+    module _ (isnt : (inst_at words.insts b.place).op == op.PHI ≡ false) where
+      reads : Each (IsReadAt words v b.place) (read_ids inst.op b.state.before inst.words)
+      reads = part_uses (IsUsed (intervals_of v.derivation) words.insts b.place) words v b.place b.state.before low high isnt
+          (uses_seen (intervals_of v.derivation) words.insts b.place (valid_seen words v b.place (function_within words.insts v.derivation b.place high)) isnt)
+
+      are : all_values b.state.values (read_ids inst.op b.state.before inst.words) ≡ Some d.read
+      are = ap (λ (values : Values). all_values values (read_ids inst.op b.state.before inst.words)) (sym (reads_now b.state (inst.op == op.PHI) isnt)) ∙ d.are
+
+      -- a pointer that is read leads into a variable that stays
+      kept_pointer : (id variable : ℕ) (indices : List ℕ) → IsReadAt words v b.place id → gone id ≡ false → b.state.values id ≡ Some (Pointer variable indices) → gone variable ≡ false
+      kept_pointer id variable indices read stays has =
+          ap gone (read_rooted words v [] b r.steady id variable read (record { indices = indices; is = has })) ∙ root_stays b.place id low high stays
+
+      points : (id : ℕ) → IsReadAt words v b.place id → gone id ≡ false → (value : Value) → b.state.values id ≡ Some value → PointsAlike p q value
+      points id read stays (Pointer variable indices) has = held variable (kept_pointer id variable indices read stays has)
+      points id read stays Outside has = tt
+      points id read stays (Truth t) has = tt
+      points id read stays (Word word) has = tt
+      points id read stays (Composite parts) has = tt
+
+      holds : (id : ℕ) → IsReadAt words v b.place id → gone id ≡ false → (value : Value) → b.state.values id ≡ Some value → HoldsAlike a.state.memory b.state.memory value
+      holds id read stays (Pointer variable indices) has = λ at. r.same.memory variable at (kept_pointer id variable indices read stays has)
+      holds id read stays Outside has = tt
+      holds id read stays (Truth t) has = tt
+      holds id read stays (Word word) has = tt
+      holds id read stays (Composite parts) has = tt
+
+      each_with : (Q : Value → Type 0) → ((id : ℕ) → IsReadAt words v b.place id → gone id ≡ false → (value : Value) → b.state.values id ≡ Some value → Q value) → (ids : List ℕ) → Each (IsReadAt words v b.place) ids → Each (λ id. gone id ≡ false) ids
+          → Each (λ id. (value : Value) → b.state.values id ≡ Some value → Q value) ids
+      each_with Q f [] read stays = tt
+      each_with Q f (id ∷ ids) read stays = (f id read.0 stays.0, each_with Q f ids read.1 stays.1)
+
+      plain_effect : effect_of p a.state.memory inst d.read ≡ effect_of q b.state.memory inst d.read
+      plain_effect =
+          let ids = read_ids inst.op b.state.before inst.words in
+          let stay = read_stays b.place b.state.before low high in
+          effect_alike p q layouts a.state.memory b.state.memory inst d.read
+          (λ is. vector_by (p.meaning (word_at 0 inst)) ∙ ap vector_shape (shapes_alike (word_at 0 inst)) ∙ sym (vector_by (q.meaning (word_at 0 inst))))
+          (each_read (PointsAlike p q) (AllPointAlike p q) tt (λ value values one all. (one, all)) b.state.values ids d.read (each_with (PointsAlike p q) points ids reads stay) are)
+          (λ is. each_read (HoldsAlike a.state.memory b.state.memory) (FirstHoldsAlike a.state.memory b.state.memory) tt (λ value values one all. one) b.state.values ids d.read
+          (each_with (HoldsAlike a.state.memory b.state.memory) holds ids reads stay) are)
+
+    same_effect : effect_of p a.state.memory inst d.read ≡ Some d.runs.effect
+    same_effect = by_phi (inst.op == op.PHI) refl ∙ d.runs.is
+      where
+        by_phi : (t : Bool) → (inst_at words.insts b.place).op == op.PHI ≡ t → effect_of p a.state.memory (inst_at words.insts b.place) d.read ≡ effect_of q b.state.memory (inst_at words.insts b.place) d.read
+        by_phi true is = at_op (λ (i : Inst). effect_of p a.state.memory i d.read ≡ effect_of q b.state.memory i d.read) inst op.PHI is (phi_effect p q a.state.memory b.state.memory d.read inst.words)
+        by_phi false isnt = plain_effect isnt
+
+    -- both steps lead on from the same flow
+    new_step : step p a ≡ led p a.place (after_effect inst a.state d.runs.effect)
+    new_step = step_is p a inst (after_effect inst a.state d.runs.effect) (ap (λ (l : List Inst). slice_get l a.place) (same_insts (dropped gone words.insts)) ∙ there) (done_by_reads p inst a.state d.read d.runs.effect new_read same_effect)
+
+    old_step : step q b ≡ led q b.place (after_effect inst b.state d.runs.effect)
+    unfolding d
+    old_step = running_step words v b r.steady.running
+
+    -- ---- where they come to
+
+    module _ (Kept : Outcome → Outcome → Type 0) (keeps : (kind : Kind) (x y : State) → AreSame gone x y → Kept (outcome_of (program_of (dropped gone words.insts)) (kind, x)) (outcome_of (program_of words.insts) (kind, y))) where
+      abbrev Both : Type 0
+      Both = Round Kept (program_of (dropped gone words.insts)) (program_of words.insts) Beside a b
+
+      go_on : (to' to : ℕ) (x y : State) → to' + v.derivation.before ≡ to + dropped_before gone words.insts v.derivation → AreSame gone x y → step p a ≡ Some (at to' x) → step q b ≡ Some (at to y) → Both
+      go_on to' to x y shifted same goes' goes =
+          returns (machine to' x) (machine to y) (one_step p a (machine to' x) goes') (record { next = machine to y; goes = goes; comes = rests refl })
+          (record { steady = steady_on words v [] b (machine to y) r.steady goes; place = shifted; same = same })
+
+      end_both : (kind : Kind) (x y : State) → AreSame gone x y → step p a ≡ Some (Ends kind x) → step q b ≡ Some (Ends kind y) → Both
+      end_both kind x y same goes' goes = ends kind x y (record { at = a; comes = rests refl; stops = goes' }) (record { at = b; comes = rests refl; stops = goes }) (keeps kind x y same)
+
+      jump_both : (to' to : ℕ) (x y : State) → to' + v.derivation.before ≡ to + dropped_before gone words.insts v.derivation → AreSame gone x y → step p a ≡ Some (jump a.place to' x) → step q b ≡ Some (jump b.place to y) → Both
+      jump_both to' to x y shifted same goes' goes = by_tests (nat_le to b.place) (nat_le BACK_EDGES (y.back_edges + 1)) refl refl
+        where
+          behind : nat_le to' a.place ≡ nat_le to b.place
+          behind = le_shift to b.place to' a.place v.derivation.before (dropped_before gone words.insts v.derivation) shifted r.place
+
+          full : nat_le BACK_EDGES (x.back_edges + 1) ≡ nat_le BACK_EDGES (y.back_edges + 1)
+          full = ap (λ (n : ℕ). nat_le BACK_EDGES (n + 1)) same.back_edges
+
+          by_tests : (back lost : Bool) → nat_le to b.place ≡ back → nat_le BACK_EDGES (y.back_edges + 1) ≡ lost → Both
+          by_tests false lost is is_full =
+              go_on to' to x y shifted same
+              (goes' ∙ ap (λ (t : Bool). Some (if t then back_to to' x else at to' x)) (behind ∙ is))
+              (goes ∙ ap (λ (t : Bool). Some (if t then back_to to y else at to y)) is)
+          by_tests true true is is_full =
+              end_both Lost (record x { back_edges = x.back_edges + 1 }) (record y { back_edges = y.back_edges + 1 }) (same_edges gone x y same)
+              (goes' ∙ ap (λ (t : Bool). Some (if t then back_to to' x else at to' x)) (behind ∙ is)
+              ∙ ap (λ (t : Bool). Some (if t then Ends Lost (record x { back_edges = x.back_edges + 1 }) else at to' (record x { back_edges = x.back_edges + 1 }))) (full ∙ is_full))
+              (goes ∙ ap (λ (t : Bool). Some (if t then back_to to y else at to y)) is
+              ∙ ap (λ (t : Bool). Some (if t then Ends Lost (record y { back_edges = y.back_edges + 1 }) else at to (record y { back_edges = y.back_edges + 1 }))) is_full)
+          by_tests true false is is_full =
+              go_on to' to (record x { back_edges = x.back_edges + 1 }) (record y { back_edges = y.back_edges + 1 }) shifted (same_edges gone x y same)
+              (goes' ∙ ap (λ (t : Bool). Some (if t then back_to to' x else at to' x)) (behind ∙ is)
+              ∙ ap (λ (t : Bool). Some (if t then Ends Lost (record x { back_edges = x.back_edges + 1 }) else at to' (record x { back_edges = x.back_edges + 1 }))) (full ∙ is_full))
+              (goes ∙ ap (λ (t : Bool). Some (if t then back_to to y else at to y)) is
+              ∙ ap (λ (t : Bool). Some (if t then Ends Lost (record y { back_edges = y.back_edges + 1 }) else at to (record y { back_edges = y.back_edges + 1 }))) is_full)
+
+      led_both : (flow : Flow) (x y : State) → AreSame gone x y → step p a ≡ led p a.place (flow, x) → step q b ≡ led q b.place (flow, y) → Both
+      unfolding program_of
+      led_both Next x y same goes' goes = (let e = r.place in go_on (a.place + 1) (b.place + 1) x y (omega (arith, e)) same goes' goes)
+      led_both (Stopped kind) x y same goes' goes = end_both kind x y same goes' goes
+      led_both (To label) x y same goes' goes = by_place (first_label_place words.insts label) refl
+        where
+          by_place : (found : Option ℕ) → first_label_place words.insts label ≡ found → Both
+          by_place None is = stops (record { at = b; comes = rests refl; stuck = goes ∙ ap (option_map (λ (to : ℕ). jump b.place to y)) is })
+          by_place (Some to) is =
+              jump_both (dropped_left gone words.insts to) to x y (label_shifted label to is) same
+              (goes' ∙ ap (option_map (λ (to : ℕ). jump a.place to x)) (label_moved label to is)) (goes ∙ ap (option_map (λ (to : ℕ). jump b.place to y)) is)
+
+      behind_both : (new old : Flow × State) → Behind gone new old → step p a ≡ led p a.place new → step q b ≡ led q b.place old → Both
+      behind_both (flow, x) (flow', y) s goes' goes = led_both flow x y s.1 goes' (goes ∙ ap (λ (f : Flow). led q b.place (f, y)) (sym s.0))
+
+      pub dropped_step : Both
+      dropped_step = behind_both (after_effect inst a.state d.runs.effect) (after_effect inst b.state d.runs.effect) (same_behind gone inst a.state b.state r.same d.runs.effect) new_step old_step

@@ -23,7 +23,7 @@ use Rattle.change_model.proofs.Settlings.{op_is}
 use Rattle.change_model.proofs.Sifted.{sifted, sifted_cons, sifted_gone}
 
 -- the first that passes is the same, where it neither goes nor changes
-find_same : (goes : Inst → Bool) (f : Inst → Inst) (p' p : Inst → Bool) (insts : List Inst) → ((k : ℕ) → k < length insts → p' (f (inst_at insts k)) ≡ p (inst_at insts k))
+pub find_same : (goes : Inst → Bool) (f : Inst → Inst) (p' p : Inst → Bool) (insts : List Inst) → ((k : ℕ) → k < length insts → p' (f (inst_at insts k)) ≡ p (inst_at insts k))
     → ((k : ℕ) → k < length insts → goes (inst_at insts k) ≡ true → p (inst_at insts k) ≡ false) → ((inst : Inst) → p inst ≡ true → f inst ≡ inst) → find p' (sifted goes f insts) ≡ find p insts
 find_same goes f p' p [] alike none same = refl
 find_same goes f p' p (inst ∷ insts) alike none same =
@@ -50,7 +50,7 @@ variable_op : (facts : ModuleFacts) (storage location : ℕ) (inst : Inst) → i
 variable_op facts storage location inst is = op_is inst.op op.VARIABLE (first_of _ _ (first_of (is_variable_of storage inst) _ is))
 
 -- a variable whose id stays is not dropped
-variable_kept : (gone : ℕ → Bool) (inst : Inst) → inst.op ≡ op.VARIABLE → gone (word_at 1 inst) ≡ false → is_dropped gone inst ≡ false
+pub variable_kept : (gone : ℕ → Bool) (inst : Inst) → inst.op ≡ op.VARIABLE → gone (word_at 1 inst) ≡ false → is_dropped gone inst ≡ false
 variable_kept gone inst is stays =
     both (is_gone gone (result inst)) (is_decoration inst.op) (gone (word_at 0 inst))
     (ap (λ (o : ℕ). is_gone gone (result (record { op = o; words = inst.words }))) is ∙ ap (is_gone gone) (variable_words inst.words) ∙ stays) (ap is_decoration is)

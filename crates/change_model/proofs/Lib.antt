@@ -304,3 +304,12 @@ pub mod PartReads
 pub mod DroppedRuns
 pub mod DroppedValid
 pub mod DroppedSlots
+pub mod DroppedValues
+pub mod DroppedStarts
+pub mod DroppedMemory
+pub mod DroppedLeft
+pub mod DroppedDoes
+pub mod ShortWords
+pub mod DroppedReduced
+pub mod DroppedStraight
+pub mod DroppedUsed

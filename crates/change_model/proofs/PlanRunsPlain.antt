@@ -51,7 +51,7 @@ use Rattle.change_model.proofs.PlanRunsSilent.{none_unseen, read_rooted}
 
 -- ---- what both programs say of it
 
-abbrev vector_shape : Option Shape → Bool
+abbrev pub vector_shape : Option Shape → Bool
 vector_shape (Some (BoolVector count)) = true
 vector_shape (Some (IntVector count signed)) = true
 vector_shape shape = false
@@ -61,7 +61,7 @@ shape_vector (BoolVector count) = refl
 shape_vector (IntVector count signed) = refl
 shape_vector shape = refl
 
-vector_by : (meaning : Meaning) → is_vector meaning ≡ vector_shape (shape_in meaning)
+pub vector_by : (meaning : Meaning) → is_vector meaning ≡ vector_shape (shape_in meaning)
 vector_by (OfShape shape) = shape_vector shape
 vector_by Absent = refl
 vector_by (Constant type) = refl

@@ -208,13 +208,13 @@ output_kept g kind new old decoration word same =
 
 -- ---- slots
 
-mapped_same : (f g : ℕ → List ℕ) (n from location : ℕ) → f (from + location) ≡ g (from + location) → slice_index_or (map f (range_with_len from n)) location [] ≡ slice_index_or (map g (range_with_len from n)) location []
+pub mapped_same : (f g : ℕ → List ℕ) (n from location : ℕ) → f (from + location) ≡ g (from + location) → slice_index_or (map f (range_with_len from n)) location [] ≡ slice_index_or (map g (range_with_len from n)) location []
 mapped_same f g zero from location same = refl
 mapped_same f g (suc n) from zero same = ap f {x = from} {y = from + 0} (omega arith) ∙ same ∙ ap g {x = from + 0} {y = from} (omega arith)
 mapped_same f g (suc n) from (suc location) same =
     mapped_same f g n (from + 1) location (ap f {x = from + 1 + location} {y = from + suc location} (omega arith) ∙ same ∙ ap g {x = from + suc location} {y = from + 1 + location} (omega arith))
 
-mapped_long : (f g : ℕ → List ℕ) (list : List ℕ) → length (map f list) ≡ length (map g list)
+pub mapped_long : (f g : ℕ → List ℕ) (list : List ℕ) → length (map f list) ≡ length (map g list)
 mapped_long f g [] = refl
 mapped_long f g (x ∷ list) = let e = mapped_long f g list in omega (arith, e)
 

@@ -77,7 +77,7 @@ other_id own id isnt = grind (arith, nat_tests)
 other_value : (own id : ℕ) (value : Option Value) (values : Values) → own == id ≡ false → with_value own value values id ≡ values id
 other_value own id value values isnt = ap (λ (b : Bool). if b then value else values id) (other_id own id isnt)
 
-value_stays : (program : Program) (entries : SpecValues) (values : Values) (inst : Inst) (id : ℕ) → gives id inst ≡ false → with_definition program entries values inst id ≡ values id
+pub value_stays : (program : Program) (entries : SpecValues) (values : Values) (inst : Inst) (id : ℕ) → gives id inst ≡ false → with_definition program entries values inst id ≡ values id
 value_stays program entries values inst id isnt = by_defines (defines_op inst.op) refl (constant_of program entries values inst.op inst.words) refl
   where
     by_defines : (b : Bool) → defines_op inst.op ≡ b → (value : Option Value) → constant_of program entries values inst.op inst.words ≡ value → with_definition program entries values inst id ≡ values id

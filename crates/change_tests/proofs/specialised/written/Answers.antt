@@ -1,4 +1,4 @@
-use Rattle.change_tests.proofs.ShortWords.{short}
+use Rattle.change_model.proofs.ShortWords.{short}
 use Rattle.change_tests.proofs.specialised.written.Goals as goal
 
 pub write_module-requires-clause-short : goal.write_module-requires-clause-short

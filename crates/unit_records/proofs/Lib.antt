@@ -1,0 +1,3 @@
+pub mod WrittenRead
+pub mod RecordParts
+pub mod FittingRecords
