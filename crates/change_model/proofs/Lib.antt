@@ -313,3 +313,4 @@ pub mod ShortWords
 pub mod DroppedReduced
 pub mod DroppedStraight
 pub mod DroppedUsed
+pub mod IntervalBounds
