@@ -31,7 +31,8 @@ pub data Piece (insts : List Inst) (scope : Scope) (from : ℕ) (end : BlockEnd)
       → ((label : ℕ) → is_among label (targets (inst_at insts place)) ≡ true → (scope.test ≡ Some label) ⊎ (last.next ≡ Some label)) → Piece insts scope from end o place (way.Ends last)
   of_choice : {e : BlockEnd} → (inst_at insts place).op ≡ op.BRANCH_CONDITIONAL → is_behind op.SELECTION_MERGE insts place ≡ true → Piece insts scope from end o place e
   of_switch : {e : BlockEnd} → (inst_at insts place).op ≡ op.SWITCH → is_behind op.SELECTION_MERGE insts place ≡ true → Piece insts scope from end o place e
-  of_selection : {e : BlockEnd} → (inst_at insts place).op ≡ op.SELECTION_MERGE → Piece insts scope from end o place e
+  of_selection : {e : BlockEnd} → (inst_at insts place).op ≡ op.SELECTION_MERGE → ((inst_at insts (place + 1)).op ≡ op.BRANCH_CONDITIONAL) ⊎ ((inst_at insts (place + 1)).op ≡ op.SWITCH)
+      → Piece insts scope from end o place e
   of_loop : {head : LoopHead} → (inst_at insts place).op ≡ op.LOOP_MERGE → place ≡ o.place → scope.may_loop ≡ true → Piece insts scope from end o place (way.Loops head)
 
 module _ (insts : List Inst) (scope : Scope) (from : ℕ) (end : BlockEnd) (o : OldBlock insts scope from end) where
@@ -77,8 +78,8 @@ module _ (insts : List Inst) (scope : Scope) (from : ℕ) (end : BlockEnd) (o : 
   last_piece e (returns is may) = of_stop (subst Stop (sym (ap (λ (i : Inst). i.op) (inst_there insts scope from end o))) (returning o.inst.op is))
   last_piece e (kills is may) = of_stop (subst Stop (sym (op_there op.KILL is)) stop_kill)
   last_piece e (goes is free to begins) = of_branch (op_there op.BRANCH is)
-  last_piece e (selects is at branch few other) = of_selection (op_there op.SELECTION_MERGE is)
-  last_piece e (picks is at switch few other) = of_selection (op_there op.SELECTION_MERGE is)
+  last_piece e (selects {last} {rest} is at branch few other) = of_selection (op_there op.SELECTION_MERGE is) (inl (op_behind op.BRANCH_CONDITIONAL last rest at branch))
+  last_piece e (picks {last} {rest} is at switch few other) = of_selection (op_there op.SELECTION_MERGE is) (inr (op_behind op.SWITCH last rest at switch))
   last_piece e (loops is may at branch few free) = of_loop (op_there op.LOOP_MERGE is) refl may
 
   second_piece : (e : BlockEnd) → WayOf e → o.place + 1 < after_of e → PieceOf (o.place + 1) e

@@ -325,6 +325,8 @@ pub record Inside (insts : List Inst) (scope : Scope) (next : Option ℕ) (from 
   pub no_loop : scope.may_loop ≡ false → (inst_at insts place).op ≡ op.LOOP_MERGE → ⊥
   pub entered : is_label_at insts place ≡ true → (place ≡ from) ⊎ NamedIn insts from place (label_at insts place)
   pub switch : (inst_at insts place).op ≡ op.SWITCH → is_behind op.SELECTION_MERGE insts place ≡ true
+  -- a branch or an OpSwitch stands behind each OpSelectionMerge
+  pub merged : (inst_at insts place).op ≡ op.SELECTION_MERGE → ((inst_at insts (place + 1)).op ≡ op.BRANCH_CONDITIONAL) ⊎ ((inst_at insts (place + 1)).op ≡ op.SWITCH)
 
 -- ---- its first block
 
@@ -355,7 +357,7 @@ module _ (insts : List Inst) (scope : Scope) (next : Option ℕ) (from to : ℕ)
   piece_test place e to_end (of_test own after leads) is unselected label among = (sym after ∙ to_end.1, elim (leads label among) [ inl by_test ↦ inl by_test | inr by_next ↦ inr (sym to_end.0 ∙ by_next) ])
   piece_test place e to_end (of_choice own selected) is unselected label among = clash (is_behind op.SELECTION_MERGE insts place) selected unselected
   piece_test place e to_end (of_switch own selected) is unselected label among = other_op (inst_at insts place).op op.SWITCH op.BRANCH_CONDITIONAL own is refl
-  piece_test place e to_end (of_selection own) is unselected label among = other_op (inst_at insts place).op op.SELECTION_MERGE op.BRANCH_CONDITIONAL own is refl
+  piece_test place e to_end (of_selection own choice) is unselected label among = other_op (inst_at insts place).op op.SELECTION_MERGE op.BRANCH_CONDITIONAL own is refl
   piece_test place e to_end (of_loop own there may) is unselected label among = other_op (inst_at insts place).op op.LOOP_MERGE op.BRANCH_CONDITIONAL own is refl
 
   piece_loop : (place : ℕ) (e : BlockEnd) → Piece insts scope from end o place e → (inst_at insts place).op ≡ op.LOOP_MERGE → scope.may_loop ≡ true
@@ -366,7 +368,7 @@ module _ (insts : List Inst) (scope : Scope) (next : Option ℕ) (from to : ℕ)
   piece_loop place e (of_test own after leads) is = other_op (inst_at insts place).op op.BRANCH_CONDITIONAL op.LOOP_MERGE own is refl
   piece_loop place e (of_choice own selected) is = other_op (inst_at insts place).op op.BRANCH_CONDITIONAL op.LOOP_MERGE own is refl
   piece_loop place e (of_switch own selected) is = other_op (inst_at insts place).op op.SWITCH op.LOOP_MERGE own is refl
-  piece_loop place e (of_selection own) is = other_op (inst_at insts place).op op.SELECTION_MERGE op.LOOP_MERGE own is refl
+  piece_loop place e (of_selection own choice) is = other_op (inst_at insts place).op op.SELECTION_MERGE op.LOOP_MERGE own is refl
   piece_loop place e (of_loop own there may) is = may
 
   piece_label : (place : ℕ) (e : BlockEnd) → Piece insts scope from end o place e → (inst_at insts place).op ≡ op.LABEL → place ≡ from
@@ -377,7 +379,7 @@ module _ (insts : List Inst) (scope : Scope) (next : Option ℕ) (from to : ℕ)
   piece_label place e (of_test own after leads) is = other_op (inst_at insts place).op op.BRANCH_CONDITIONAL op.LABEL own is refl
   piece_label place e (of_choice own selected) is = other_op (inst_at insts place).op op.BRANCH_CONDITIONAL op.LABEL own is refl
   piece_label place e (of_switch own selected) is = other_op (inst_at insts place).op op.SWITCH op.LABEL own is refl
-  piece_label place e (of_selection own) is = other_op (inst_at insts place).op op.SELECTION_MERGE op.LABEL own is refl
+  piece_label place e (of_selection own choice) is = other_op (inst_at insts place).op op.SELECTION_MERGE op.LABEL own is refl
   piece_label place e (of_loop own there may) is = other_op (inst_at insts place).op op.LOOP_MERGE op.LABEL own is refl
 
   piece_switch : (place : ℕ) (e : BlockEnd) → Piece insts scope from end o place e → (inst_at insts place).op ≡ op.SWITCH → is_behind op.SELECTION_MERGE insts place ≡ true
@@ -388,8 +390,19 @@ module _ (insts : List Inst) (scope : Scope) (next : Option ℕ) (from to : ℕ)
   piece_switch place e (of_test own after leads) is = other_op (inst_at insts place).op op.BRANCH_CONDITIONAL op.SWITCH own is refl
   piece_switch place e (of_choice own selected) is = selected
   piece_switch place e (of_switch own selected) is = selected
-  piece_switch place e (of_selection own) is = other_op (inst_at insts place).op op.SELECTION_MERGE op.SWITCH own is refl
+  piece_switch place e (of_selection own choice) is = other_op (inst_at insts place).op op.SELECTION_MERGE op.SWITCH own is refl
   piece_switch place e (of_loop own there may) is = other_op (inst_at insts place).op op.LOOP_MERGE op.SWITCH own is refl
+
+  piece_merge : (place : ℕ) (e : BlockEnd) → Piece insts scope from end o place e → (inst_at insts place).op ≡ op.SELECTION_MERGE → ((inst_at insts (place + 1)).op ≡ op.BRANCH_CONDITIONAL) ⊎ ((inst_at insts (place + 1)).op ≡ op.SWITCH)
+  piece_merge place e (of_selection own choice) is = choice
+  piece_merge place e (of_label same own) is = other_op (inst_at insts place).op op.LABEL op.SELECTION_MERGE own is refl
+  piece_merge place e (of_front inner) is = no_front (inst_at insts place).op op.SELECTION_MERGE inner is inners.selection_merge
+  piece_merge place e (of_stop stop) is = no_stop (inst_at insts place).op op.SELECTION_MERGE is stop.fixed.no_selection
+  piece_merge place e (of_branch own) is = other_op (inst_at insts place).op op.BRANCH op.SELECTION_MERGE own is refl
+  piece_merge place e (of_test own after leads) is = other_op (inst_at insts place).op op.BRANCH_CONDITIONAL op.SELECTION_MERGE own is refl
+  piece_merge place e (of_choice own selected) is = other_op (inst_at insts place).op op.BRANCH_CONDITIONAL op.SELECTION_MERGE own is refl
+  piece_merge place e (of_switch own selected) is = other_op (inst_at insts place).op op.SWITCH op.SELECTION_MERGE own is refl
+  piece_merge place e (of_loop own there may) is = other_op (inst_at insts place).op op.LOOP_MERGE op.SELECTION_MERGE own is refl
 
   piece_kind : (place : ℕ) (e : BlockEnd) → Piece insts scope from end o place e → (inst_at insts place).op ≡ op.LOOP_MERGE → HasLoop e × (place ≡ o.place)
   piece_kind place e (of_loop own there may) is = (tt, there)
@@ -400,7 +413,7 @@ module _ (insts : List Inst) (scope : Scope) (next : Option ℕ) (from to : ℕ)
   piece_kind place e (of_test own after leads) is = other_op (inst_at insts place).op op.BRANCH_CONDITIONAL op.LOOP_MERGE own is refl
   piece_kind place e (of_choice own selected) is = other_op (inst_at insts place).op op.BRANCH_CONDITIONAL op.LOOP_MERGE own is refl
   piece_kind place e (of_switch own selected) is = other_op (inst_at insts place).op op.SWITCH op.LOOP_MERGE own is refl
-  piece_kind place e (of_selection own) is = other_op (inst_at insts place).op op.SELECTION_MERGE op.LOOP_MERGE own is refl
+  piece_kind place e (of_selection own choice) is = other_op (inst_at insts place).op op.SELECTION_MERGE op.LOOP_MERGE own is refl
 
   -- only the header of a loop has an OpLoopMerge
   pub loop_place : IsWhole end → (place : ℕ) → from ≤ place → place < after_of end → (inst_at insts place).op ≡ op.LOOP_MERGE → HasLoop end × (place ≡ o.place)
@@ -414,6 +427,7 @@ module _ (insts : List Inst) (scope : Scope) (next : Option ℕ) (from to : ℕ)
         no_loop = λ may is. clash scope.may_loop (piece_loop place end p is) may;
         entered = λ is. inl (piece_label place end p (eqb-true (inst_at insts place).op op.LABEL is));
         switch = λ is. piece_switch place end p is;
+        merged = λ is. piece_merge place end p is;
       }
 
 -- ---- its parts
@@ -436,6 +450,7 @@ module _ (insts : List Inst) (scope : Scope) (next : Option ℕ) (from to : ℕ)
       | inr n ↦ inr (named_wider insts low place from place (label_at insts place) down (omega arith) n)
     ];
     switch = i.switch;
+    merged = i.merged;
   }
 
 pub none_tested : {Q : Type 0} (scope : Scope) (label : ℕ) → scope.test ≡ None → Tested scope None label → Q
