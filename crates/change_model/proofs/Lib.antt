@@ -314,3 +314,4 @@ pub mod DroppedReduced
 pub mod DroppedStraight
 pub mod DroppedUsed
 pub mod IntervalBounds
+pub mod SweptReduced

@@ -106,7 +106,7 @@ module _ (is_unread : ℕ → Bool) (words : Words) (v : IsValidList words) (pla
   stays_written place within is = swept_written is_unread words v plan s place within ∙ ap (λ (f : Fate). if stays f then inst_at insts place ∷ [] else []) is
 
   -- OpFunction stands where it stood
-  first_left : place_left plan words.insts v.derivation.before ≡ v.derivation.before
+  pub first_left : place_left plan words.insts v.derivation.before ≡ v.derivation.before
   unfolding new_constants written_before
   first_left =
       let first = function_at insts in
@@ -119,19 +119,19 @@ module _ (is_unread : ℕ → Bool) (words : Words) (v : IsValidList words) (pla
       plus_none : (n : ℕ) → n + (0 + 0) ≡ n
       plus_none n = omega arith
 
-  first_stays : plan.fate v.derivation.before ≡ Stays
+  pub first_stays : plan.fate v.derivation.before ≡ Stays
   first_stays = s.outside v.derivation.before (inl (omega arith))
 
-  first_within : v.derivation.before < length words.insts
+  pub first_within : v.derivation.before < length words.insts
   first_within = within_list op.FUNCTION insts v.derivation.before v.derivation.begins.function
 
   got_there : (place : ℕ) (inst : Inst) → slice_get (changed plan words.insts) place ≡ Some inst → inst_at (changed plan words.insts) place ≡ inst
   got_there place inst is = get_or_from_slice_get new place inst no_instruction is
 
-  kept_at_left : (old : ℕ) → v.derivation.before ≤ old → old < length words.insts → plan.fate old ≡ Stays → slice_get (changed plan words.insts) (place_left plan words.insts old) ≡ Some (inst_at words.insts old)
+  pub kept_at_left : (old : ℕ) → v.derivation.before ≤ old → old < length words.insts → plan.fate old ≡ Stays → slice_get (changed plan words.insts) (place_left plan words.insts old) ≡ Some (inst_at words.insts old)
   kept_at_left old low within is = let e = function_is insts v.derivation in kept_there plan insts old (inst_at insts old) (omega (arith, e, low)) within (stays_written old within is)
 
-  first_new : (inst_at (changed plan words.insts) v.derivation.before).op ≡ op.FUNCTION
+  pub first_new : (inst_at (changed plan words.insts) v.derivation.before).op ≡ op.FUNCTION
   first_new =
       ap (λ (n : ℕ). (inst_at new n).op) (sym first_left)
       ∙ ap (λ (i : Inst). i.op) (got_there (place_left plan insts v.derivation.before) (inst_at insts v.derivation.before) (kept_at_left v.derivation.before (omega arith) first_within first_stays))

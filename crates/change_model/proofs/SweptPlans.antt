@@ -70,19 +70,19 @@ end_uses inst is = at_op (λ (i : Inst). used_ids i ≡ []) inst op.FUNCTION_END
 
 -- ---- instructions that stay, whatever is needed
 
-record IsFixed (opcode : ℕ) : Type 0 where
-  no_result : is_sweepable opcode ≡ false
-  no_store : opcode == op.STORE ≡ false
+pub record IsFixed (opcode : ℕ) : Type 0 where
+  pub no_result : is_sweepable opcode ≡ false
+  pub no_store : opcode == op.STORE ≡ false
 
-label_fixed : IsFixed op.LABEL
+pub label_fixed : IsFixed op.LABEL
 unfolding class_of entry_of
 label_fixed = record { no_result = refl; no_store = refl }
 
-selection_fixed : IsFixed op.SELECTION_MERGE
+pub selection_fixed : IsFixed op.SELECTION_MERGE
 unfolding class_of entry_of
 selection_fixed = record { no_result = refl; no_store = refl }
 
-loop_fixed : IsFixed op.LOOP_MERGE
+pub loop_fixed : IsFixed op.LOOP_MERGE
 unfolding class_of entry_of
 loop_fixed = record { no_result = refl; no_store = refl }
 
@@ -109,7 +109,7 @@ module _ (is_unread : ℕ → Bool) (words : Words) (v : IsValidList words) (pla
   fixed_by place opcode f is (swept_result id sweepable own) = clash (is_sweepable (inst_at words.insts place).op) sweepable (ap is_sweepable is ∙ f.no_result)
   fixed_by place opcode f is (swept_store own unread) = clash (opcode == op.STORE) (eq-eqb opcode op.STORE (sym is ∙ own)) f.no_store
 
-  fixed_stays : (place opcode : ℕ) → IsFixed opcode → (inst_at words.insts place).op ≡ opcode → plan.fate place ≡ fate.Stays
+  pub fixed_stays : (place opcode : ℕ) → IsFixed opcode → (inst_at words.insts place).op ≡ opcode → plan.fate place ≡ fate.Stays
   fixed_stays place opcode f is = elim (s.fates place) [ inl same ↦ same | inr same ↦ absurd (fixed_by place opcode f is (s.goes place same)) ]
 
   -- ---- labels
