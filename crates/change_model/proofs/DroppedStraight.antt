@@ -32,7 +32,7 @@ use Rattle.change_model.proofs.MovedUp.{level_inst}
 use Rattle.change_model.proofs.SeenBehind.{intervals_sooner}
 use Rattle.change_model.proofs.Sifted.{none_sifted}
 
-any_map : {A B : Type 0} (f : A → B) (test : B → Bool) (list : List A) → list_any test (map f list) ≡ list_any (λ x. test (f x)) list
+pub any_map : {A B : Type 0} (f : A → B) (test : B → Bool) (list : List A) → list_any test (map f list) ≡ list_any (λ x. test (f x)) list
 any_map f test [] = refl
 any_map f test (x ∷ list) = ap (λ (b : Bool). test (f x) || b) (any_map f test list)
 
@@ -55,10 +55,10 @@ nested_later : (k : ℕ) (outer inner : Interval) → is_nested (later k outer) 
 nested_later k outer inner = rw (lt_later outer.from inner.from k) (rw (le_later inner.to outer.to k) refl)
 
 -- a test that is of three parts
-carried : (a a' b b' c c' : Bool) → a ≡ a' → b ≡ b' → (c ≡ true → c' ≡ true) → (a && b && c) ≡ true → (a' && b' && c') ≡ true
+pub carried : (a a' b b' c c' : Bool) → a ≡ a' → b ≡ b' → (c ≡ true → c' ≡ true) → (a && b && c) ≡ true → (a' && b' && c') ≡ true
 carried a a' b b' c c' p q f is = both (a' && b') c' (both a' b' (sym p ∙ first a b (first (a && b) c is)) (sym q ∙ second a b (first (a && b) c is))) (f (second (a && b) c is))
 
-carried_over : (a a' b b' c c' : Bool) → a ≡ a' → (b ≡ true → b' ≡ true) → c ≡ c' → (a && b && c) ≡ true → (a' && b' && c') ≡ true
+pub carried_over : (a a' b b' c c' : Bool) → a ≡ a' → (b ≡ true → b' ≡ true) → c ≡ c' → (a && b && c) ≡ true → (a' && b' && c') ≡ true
 carried_over a a' b b' c c' p f q is = both (a' && b') c' (both a' b' (sym p ∙ first a b (first (a && b) c is)) (f (second a b (first (a && b) c is)))) (sym q ∙ second (a && b) c is)
 
 -- ---- the module's level
@@ -214,7 +214,7 @@ module _ (words : Words) (v : IsValidList words) (gone : ℕ → Bool) (m : MayD
             (inst_behind words v gone m (place - 1) (omega (arith, before)) ∙ ap (inst_at words.insts) {x = place - 1 + far words v gone m} {y = place + far words v gone m - 1} (omega (arith, before)))
             ∙ ap (λ (b : Bool). (length (inst_at words.insts (place + far words v gone m)).words == 2) && b) (within_same intervals (word_at 1 (inst_at words.insts (place + far words v gone m))) (word_at 0 (inst_at words.insts (place + far words v gone m - 1))))
 
-  either_way : (a b c a' b' c' : Bool) → (a ≡ true → a' ≡ true) → (b ≡ true → b' ≡ true) → (c ≡ true → c' ≡ true) → (a || b || c) ≡ true → (a' || b' || c') ≡ true
+  pub either_way : (a b c a' b' c' : Bool) → (a ≡ true → a' ≡ true) → (b ≡ true → b' ≡ true) → (c ≡ true → c' ≡ true) → (a || b || c) ≡ true → (a' || b' || c') ≡ true
   either_way true b c a' b' c' f g h is = rw (f refl) refl
   either_way false true c a' b' c' f g h is = or_second a' b' c' (g refl)
     where

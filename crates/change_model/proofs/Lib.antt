@@ -315,3 +315,4 @@ pub mod DroppedStraight
 pub mod DroppedUsed
 pub mod IntervalBounds
 pub mod SweptReduced
+pub mod SweptStraight

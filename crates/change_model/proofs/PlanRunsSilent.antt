@@ -99,7 +99,7 @@ labels_stay : may_go op.LABEL ≡ false
 unfolding class_of entry_of
 labels_stay = refl
 
-straight_by : (opcode : ℕ) (a b c : Bool) → is_plain opcode ≡ a → opcode == op.PHI ≡ b → opcode == op.VARIABLE ≡ c → (a || b || c) ≡ true → is_terminator opcode ≡ false
+pub straight_by : (opcode : ℕ) (a b c : Bool) → is_plain opcode ≡ a → opcode == op.PHI ≡ b → opcode == op.VARIABLE ≡ c → (a || b || c) ≡ true → is_terminator opcode ≡ false
 straight_by opcode true b c plain phi variable is = plain_is_straight opcode plain
 straight_by opcode false true c plain phi variable is = ap is_terminator (same opcode op.PHI phi) ∙ straight_phi
   where

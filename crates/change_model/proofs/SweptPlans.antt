@@ -92,7 +92,7 @@ module _ (is_unread : ℕ → Bool) (words : Words) (v : IsValidList words) (pla
 
   -- ---- fates
 
-  never_dead : (place : ℕ) → is_dead (plan.fate place) ≡ false
+  pub never_dead : (place : ℕ) → is_dead (plan.fate place) ≡ false
   never_dead place = elim (s.fates place) [ inl same ↦ ap is_dead same | inr same ↦ ap is_dead same ]
 
   never_goes : (place : ℕ) → goes (plan.fate place) ≡ false

@@ -55,7 +55,7 @@ null_tells : TellsTypes null_scalar
 null_tells = record { constant = λ type. refl; variable = λ type class. refl; value = λ type. refl; label = refl; other = refl }
 
 module _ (is_unread : ℕ → Bool) (words : Words) (v : IsValidList words) (plan : Plan) (s : IsSwept is_unread words v plan) where
-  g : Planned
+  pub g : Planned
   g = planned words v [] plan (swept_is_plan is_unread words v plan s [])
 
   -- ---- constants
@@ -92,7 +92,7 @@ module _ (is_unread : ℕ → Bool) (words : Words) (v : IsValidList words) (pla
         ]
       ]
 
-  scalar_was : (id : ℕ) → is_constant_scalar (changed plan words.insts) id ≡ true → is_constant_scalar words.insts id ≡ true
+  pub scalar_was : (id : ℕ) → is_constant_scalar (changed plan words.insts) id ≡ true → is_constant_scalar words.insts id ≡ true
   scalar_was id is = by_found (constant_scalar (changed plan words.insts) id) refl is
     where
       by_found : (found : Option Scalar) → constant_scalar (changed plan words.insts) id ≡ found → is_some found ≡ true → is_some (constant_scalar words.insts id) ≡ true
@@ -102,7 +102,7 @@ module _ (is_unread : ℕ → Bool) (words : Words) (v : IsValidList words) (pla
   -- ---- places
 
   -- what fails at each old place that stays fails at each new one
-  places_fail : (p p' : ℕ → Bool) → ((place : ℕ) (f : SweptFrom words v plan place) → p' place ≡ true → p f.old ≡ true) → list_all (λ place. not (p place)) (function_places words.insts) ≡ true
+  pub places_fail : (p p' : ℕ → Bool) → ((place : ℕ) (f : SweptFrom words v plan place) → p' place ≡ true → p f.old ≡ true) → list_all (λ place. not (p place)) (function_places words.insts) ≡ true
       → list_all (λ place. not (p' place)) (function_places (changed plan words.insts)) ≡ true
   places_fail p p' same all = all_filtered (λ place. not (p' place)) (is_in_function (changed plan words.insts)) 0 (length (changed plan words.insts)) (λ place less inside.
       let f = swept_from is_unread words v plan s place (new_behind is_unread words v plan s place inside) (omega (arith, less)) in
@@ -116,7 +116,7 @@ module _ (is_unread : ℕ → Bool) (words : Words) (v : IsValidList words) (pla
       failed true is = cc
       failed false is = refl
 
-  folded_swept : is_folded words.insts ≡ true → is_folded (changed plan words.insts) ≡ true
+  pub folded_swept : is_folded words.insts ≡ true → is_folded (changed plan words.insts) ≡ true
   folded_swept all = places_fail (λ place. is_foldable words.insts (inst_at words.insts place)) (λ place. is_foldable (changed plan words.insts) (inst_at (changed plan words.insts) place))
       (λ place f is. was (inst_at words.insts f.old) (ap (is_foldable (changed plan words.insts)) (sym f.same) ∙ is)) all
     where
@@ -151,7 +151,7 @@ module _ (is_unread : ℕ → Bool) (words : Words) (v : IsValidList words) (pla
             ∙ ap (λ (d : ℕ → ℕ → Option ℕ). is_input (meaning (changed plan words.insts) id) && is_some (d id LOCATION) && not (has_slot fed (d id LOCATION))) (sym (decorations_changed g)) ∙ is
       ]
 
-  fed_swept : (fed : Iface) → names_fed_inputs fed words.insts ≡ true → names_fed_inputs fed (changed plan words.insts) ≡ true
+  pub fed_swept : (fed : Iface) → names_fed_inputs fed words.insts ≡ true → names_fed_inputs fed (changed plan words.insts) ≡ true
   fed_swept fed all = all_filtered (λ place. list_all (λ id. not (is_unfed fed (changed plan words.insts) id)) (ids (inst_at (changed plan words.insts) place))) (is_in_function (changed plan words.insts)) 0 (length (changed plan words.insts))
       (λ place less inside.
       let f = swept_from is_unread words v plan s place (new_behind is_unread words v plan s place inside) (omega (arith, less)) in
