@@ -61,6 +61,22 @@ carried a a' b b' c c' p q f is = both (a' && b') c' (both a' b' (sym p ∙ firs
 pub carried_over : (a a' b b' c c' : Bool) → a ≡ a' → (b ≡ true → b' ≡ true) → c ≡ c' → (a && b && c) ≡ true → (a' && b' && c') ≡ true
 carried_over a a' b b' c c' p f q is = both (a' && b') c' (both a' b' (sym p ∙ first a b (first (a && b) c is)) (f (second a b (first (a && b) c is)))) (sym q ∙ second (a && b) c is)
 
+-- one of three tests passes
+pub one_of_three : (a b c a' b' c' : Bool) → (a ≡ true → a' ≡ true) → (b ≡ true → b' ≡ true) → (c ≡ true → c' ≡ true) → (a || b || c) ≡ true → (a' || b' || c') ≡ true
+one_of_three true b c a' b' c' f g h is = rw (f refl) refl
+one_of_three false true c a' b' c' f g h is = or_second a' b' c' (g refl)
+  where
+    or_second : (a b c : Bool) → b ≡ true → (a || b || c) ≡ true
+    or_second true b c is = refl
+    or_second false true c is = refl
+    or_second false false c is = cc
+one_of_three false false c a' b' c' f g h is = or_third a' b' c' (h is)
+  where
+    or_third : (a b c : Bool) → c ≡ true → (a || b || c) ≡ true
+    or_third true b c is = refl
+    or_third false true c is = refl
+    or_third false false c is = is
+
 -- ---- the module's level
 
 no_label : is_module_level op.LABEL ≡ false
@@ -214,21 +230,6 @@ module _ (words : Words) (v : IsValidList words) (gone : ℕ → Bool) (m : MayD
             (inst_behind words v gone m (place - 1) (omega (arith, before)) ∙ ap (inst_at words.insts) {x = place - 1 + far words v gone m} {y = place + far words v gone m - 1} (omega (arith, before)))
             ∙ ap (λ (b : Bool). (length (inst_at words.insts (place + far words v gone m)).words == 2) && b) (within_same intervals (word_at 1 (inst_at words.insts (place + far words v gone m))) (word_at 0 (inst_at words.insts (place + far words v gone m - 1))))
 
-  pub either_way : (a b c a' b' c' : Bool) → (a ≡ true → a' ≡ true) → (b ≡ true → b' ≡ true) → (c ≡ true → c' ≡ true) → (a || b || c) ≡ true → (a' || b' || c') ≡ true
-  either_way true b c a' b' c' f g h is = rw (f refl) refl
-  either_way false true c a' b' c' f g h is = or_second a' b' c' (g refl)
-    where
-      or_second : (a b c : Bool) → b ≡ true → (a || b || c) ≡ true
-      or_second true b c is = refl
-      or_second false true c is = refl
-      or_second false false c is = cc
-  either_way false false c a' b' c' f g h is = or_third a' b' c' (h is)
-    where
-      or_third : (a b c : Bool) → c ≡ true → (a || b || c) ≡ true
-      or_third true b c is = refl
-      or_third false true c is = refl
-      or_third false false c is = is
-
   intervals_moved : (d : Derives words.insts) (after : Derives (dropped gone words.insts)) → intervals_of d ≡ map (later (far words v gone m)) (intervals_of after)
   intervals_moved d after =
       let b = body_dropped words v gone m (dropped_valid words v gone m).sound in
@@ -239,7 +240,7 @@ module _ (words : Words) (v : IsValidList words) (gone : ℕ → Bool) (m : MayD
   straight_dropped d after all = places_fail words v gone m
       (λ place. chooses_constantly words.insts place || leaves_at_once words.insts place || switches_constantly (intervals_of d) words.insts place)
       (λ place. chooses_constantly (dropped gone words.insts) place || leaves_at_once (dropped gone words.insts) place || switches_constantly (intervals_of after) (dropped gone words.insts) place)
-      (λ place less is. either_way (chooses_constantly (dropped gone words.insts) place) (leaves_at_once (dropped gone words.insts) place) (switches_constantly (intervals_of after) (dropped gone words.insts) place) _ _ _
+      (λ place less is. one_of_three (chooses_constantly (dropped gone words.insts) place) (leaves_at_once (dropped gone words.insts) place) (switches_constantly (intervals_of after) (dropped gone words.insts) place) _ _ _
       (chose (intervals_of after) place less) (left (intervals_of after) place less) (switch_was place less) is) all
     where
       first_place : (place : ℕ) → dropped_before gone words.insts v.derivation < place → place ≤ dropped_before gone words.insts v.derivation + 1 → switches_constantly (intervals_of after) (dropped gone words.insts) place ≡ true → ⊥

@@ -48,6 +48,7 @@ use Rattle.change_model.proofs.PlanRuns.{IsLevelId}
 use Rattle.change_model.proofs.PlanRunsLevel.{scalar_level}
 use Rattle.change_model.proofs.PlanRunsSetting.{planned, leaves_program}
 use Rattle.change_model.proofs.SameFacts.{TellsTypes, same_told}
+use Rattle.change_model.proofs.SpecializedLeft.{specialized_left}
 use Rattle.change_model.proofs.SweptPlaces.{stays_written, first_left, first_within, first_stays, first_new, kept_at_left, new_behind, SweptFrom, SweptTo, swept_from, swept_to, swept_rises, swept_apart}
 use Rattle.change_model.proofs.SweptPlans.{IsFixed, label_fixed, selection_fixed, fixed_stays, swept_is_plan}
 
@@ -102,11 +103,13 @@ module _ (is_unread : ℕ → Bool) (words : Words) (v : IsValidList words) (pla
   -- ---- places
 
   -- what fails at each old place that stays fails at each new one
-  pub places_fail : (p p' : ℕ → Bool) → ((place : ℕ) (f : SweptFrom words v plan place) → p' place ≡ true → p f.old ≡ true) → list_all (λ place. not (p place)) (function_places words.insts) ≡ true
+  pub places_fail : (p p' : ℕ → Bool) → ((place : ℕ) → v.derivation.before < place → place < length (changed plan words.insts) → (f : SweptFrom words v plan place) → p' place ≡ true → p f.old ≡ true) → list_all (λ place. not (p place)) (function_places words.insts) ≡ true
       → list_all (λ place. not (p' place)) (function_places (changed plan words.insts)) ≡ true
   places_fail p p' same all = all_filtered (λ place. not (p' place)) (is_in_function (changed plan words.insts)) 0 (length (changed plan words.insts)) (λ place less inside.
-      let f = swept_from is_unread words v plan s place (new_behind is_unread words v plan s place inside) (omega (arith, less)) in
-      fails (p' place) (λ is. clash (p f.old) (same place f is) (failed (p f.old) (place_holds words.insts v.derivation (λ place. not (p place)) all f.old f.low f.within))))
+      let behind = new_behind is_unread words v plan s place inside in
+      let within : place < length (changed plan words.insts) = omega (arith, less) in
+      let f = swept_from is_unread words v plan s place behind within in
+      fails (p' place) (λ is. clash (p f.old) (same place behind within f is) (failed (p f.old) (place_holds words.insts v.derivation (λ place. not (p place)) all f.old f.low f.within))))
     where
       fails : (b : Bool) → (b ≡ true → ⊥) → not b ≡ true
       fails true isnt = absurd (isnt refl)
@@ -118,7 +121,7 @@ module _ (is_unread : ℕ → Bool) (words : Words) (v : IsValidList words) (pla
 
   pub folded_swept : is_folded words.insts ≡ true → is_folded (changed plan words.insts) ≡ true
   folded_swept all = places_fail (λ place. is_foldable words.insts (inst_at words.insts place)) (λ place. is_foldable (changed plan words.insts) (inst_at (changed plan words.insts) place))
-      (λ place f is. was (inst_at words.insts f.old) (ap (is_foldable (changed plan words.insts)) (sym f.same) ∙ is)) all
+      (λ place behind within f is. was (inst_at words.insts f.old) (ap (is_foldable (changed plan words.insts)) (sym f.same) ∙ is)) all
     where
       all_were : (list : List ℕ) → list_all (is_constant_scalar (changed plan words.insts)) list ≡ true → list_all (is_constant_scalar words.insts) list ≡ true
       all_were [] is = refl
@@ -173,3 +176,7 @@ module _ (is_unread : ℕ → Bool) (words : Words) (v : IsValidList words) (pla
       all_fed [] are = refl
       all_fed (id ∷ list) are = both (not (is_unfed fed (changed plan words.insts) id)) (list_all (λ id. not (is_unfed fed (changed plan words.insts) id)) list)
           (fed_still id (first (not (is_unfed fed words.insts id)) (list_all (λ id. not (is_unfed fed words.insts id)) list) are)) (all_fed list (second (not (is_unfed fed words.insts id)) (list_all (λ id. not (is_unfed fed words.insts id)) list) are))
+
+  pub specialized_swept : is_specialized words.insts ≡ true → is_specialized (changed plan words.insts) ≡ true
+  unfolding g
+  specialized_swept = specialized_left g

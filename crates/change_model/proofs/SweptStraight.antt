@@ -3,6 +3,7 @@ use Rattle.std.proofs.Common.{◌≡◌, ℕ, zero, suc, ◌+◌, ◌-◌, ◌<�
 use Rattle.std.specs.List.{list_all, list_any, range_with_len}
 use Rattle.std.proofs.lemmas.Bool.{cases_lt, lt-ltb, ltb-true, eqb-true, eq-eqb}
 use Rattle.std.proofs.lemmas.Bool.Decides.{nat_tests}
+use Rattle.std.proofs.lemmas.List.{take_all}
 use Rattle.spirv_model.specs.declared.module.Inst.{Inst}
 use Rattle.spirv_model.specs.declared.module.Words.{Words}
 use Rattle.spirv_model.specs.declared.op.TheConstants as op
@@ -21,11 +22,17 @@ use Rattle.unit_model.specs.ConstantScalars.{constant_scalar, is_constant_scalar
 use Rattle.change_model.specs.declared.fate.Fate.{Fate}
 use Rattle.change_model.specs.declared.fate.Fate.TheVariants as fate
 use Rattle.change_model.specs.Plans.{Plan, is_dead, changed}
-use Rattle.change_model.specs.PlanRules.{is_arm_of, is_skipped, is_condition_left, is_joined, remains, intervals_left}
+use Rattle.change_model.specs.PlanRules.{goes_to_begin, is_arm_of, is_skipped, is_condition_left, is_joined, remains, intervals_left}
+use Rattle.change_model.specs.Pruned.{StaysReduced}
 use Rattle.change_model.specs.Sweeping.{is_sweepable, IsSwept}
-use Rattle.change_model.proofs.ChangedPlaces.{place_left, rises, next_left}
+use Rattle.change_model.proofs.ChangedDecorated.{any_there}
+use Rattle.change_model.proofs.ChangedDefinitions.{same_there}
+use Rattle.change_model.proofs.FunctionPlaces.{any_among}
+use Rattle.change_model.proofs.ChangedPlaces.{place_left, rises, next_left, level_there}
 use Rattle.change_model.proofs.DroppedReduced.{first, second, both}
-use Rattle.change_model.proofs.DroppedStraight.{carried, carried_over, any_map}
+use Rattle.change_model.proofs.DroppedStraight.{carried, carried_over, one_of_three, any_map}
+use Rattle.change_model.proofs.LeftAlive.{none_any}
+use Rattle.change_model.proofs.LeftFunction.{plan_derives}
 use Rattle.change_model.proofs.IntervalBounds.{IsStop, IsBounded, AreBounded, intervals_bounded}
 use Rattle.change_model.proofs.ConditionNames.{inside_at}
 use Rattle.change_model.proofs.MovedUp.{function_is}
@@ -35,10 +42,10 @@ use Rattle.change_model.proofs.LeftChosen.{any_of_range}
 use Rattle.change_model.proofs.LeftLeaves.{named_terminator}
 use Rattle.change_model.proofs.PlanRunsSilent.{straight_by}
 use Rattle.body_model.proofs.Forward.{forward}
-use Rattle.change_model.proofs.FoundUses.{StandsInside, label_inside, stands_inside}
+use Rattle.change_model.proofs.FoundUses.{StandsInside, label_inside, switch_inside, stands_inside}
 use Rattle.change_model.proofs.SweptPlaces.{stays_written, first_left, first_within, first_stays, first_new, SweptFrom, SweptTo, swept_from, swept_to, swept_rises, swept_apart}
 use Rattle.change_model.proofs.SweptPlans.{IsFixed, label_fixed, selection_fixed, fixed_stays, never_dead, swept_is_plan}
-use Rattle.change_model.proofs.SweptReduced.{constant_was, scalar_was, places_fail}
+use Rattle.change_model.proofs.SweptReduced.{specialized_swept, constant_was, scalar_was, places_fail, folded_swept, fed_swept}
 
 both_ways : (a b : Bool) → (a ≡ true → b ≡ true) → (b ≡ true → a ≡ true) → a ≡ b
 both_ways true b f g = sym (f refl)
@@ -250,3 +257,136 @@ module _ (is_unread : ℕ → Bool) (words : Words) (v : IsValidList words) (pla
           choice_stays : (place : ℕ) → ((inst_at words.insts place).op ≡ op.BRANCH_CONDITIONAL) ⊎ ((inst_at words.insts place).op ≡ op.SWITCH) → plan.fate place ≡ fate.Stays
           choice_stays place (inl is) = end_stays place (ap is_terminator is ∙ choice_ends.0)
           choice_stays place (inr is) = end_stays place (ap is_terminator is ∙ choice_ends.1)
+
+  -- ---- branches
+
+  merge_was : (label : ℕ) → is_merge_of_loop (changed plan words.insts) label ≡ true → is_merge_of_loop words.insts label ≡ true
+  merge_was label is =
+      let test : Inst → Bool = λ inst. (inst.op == op.LOOP_MERGE) && (word_at 0 inst == label) in
+      let found = any_among test (changed plan words.insts) (length (changed plan words.insts)) (ap (list_any test) (take_all (length (changed plan words.insts)) (changed plan words.insts) (omega arith)) ∙ is) in
+      by_order found.place found.within found.is (cases_lt v.derivation.before found.place)
+    where
+      there : (place : ℕ) → place < length words.insts → ((inst_at words.insts place).op == op.LOOP_MERGE) && (word_at 0 (inst_at words.insts place) == label) ≡ true → is_merge_of_loop words.insts label ≡ true
+      there place within is = sym (ap (list_any (λ inst. (inst.op == op.LOOP_MERGE) && (word_at 0 inst == label))) (take_all (length words.insts) words.insts (omega arith))) ∙ any_there (λ inst. (inst.op == op.LOOP_MERGE) && (word_at 0 inst == label)) (length words.insts) words.insts place within within is
+
+      by_order : (place : ℕ) → place < length (changed plan words.insts) → ((inst_at (changed plan words.insts) place).op == op.LOOP_MERGE) && (word_at 0 (inst_at (changed plan words.insts) place) == label) ≡ true
+          → (v.derivation.before < place) ⊎ (place ≤ v.derivation.before) → is_merge_of_loop words.insts label ≡ true
+      by_order place within is (inl behind) =
+          let f = swept_from is_unread words v plan s place behind within in
+          there f.old f.within (ap (λ (inst : Inst). (inst.op == op.LOOP_MERGE) && (word_at 0 inst == label)) (sym f.same) ∙ is)
+      by_order place within is (inr most) =
+          let e = function_is words.insts v.derivation in
+          elim (cases_lt place v.derivation.before) [
+            | inl level ↦
+                let w = first_within is_unread words v plan s in
+                there place (omega (arith, level, w)) (ap (λ (inst : Inst). (inst.op == op.LOOP_MERGE) && (word_at 0 inst == label)) (sym (same_there (changed plan words.insts) words.insts place place (level_there plan words.insts place (omega (arith, e, level))))) ∙ is)
+            | inr least ↦
+                let same : place ≡ v.derivation.before = omega (arith, most, least) in
+                let own = eqb-true (inst_at (changed plan words.insts) place).op op.LOOP_MERGE (first ((inst_at (changed plan words.insts) place).op == op.LOOP_MERGE) (word_at 0 (inst_at (changed plan words.insts) place) == label) is) in
+                absurd (never (sym (first_new is_unread words v plan s) ∙ ap (λ (n : ℕ). (inst_at (changed plan words.insts) n).op) (sym same) ∙ own))
+          ]
+        where
+          never : op.FUNCTION ≡ op.LOOP_MERGE → ⊥
+          never same = omega (arith, same)
+
+  target_was : (id : ℕ) (inst : Inst) → is_to_merge_of_loop (changed plan words.insts) (chosen_target (constant_scalar (changed plan words.insts) id) inst) ≡ true → is_to_merge_of_loop words.insts (chosen_target (constant_scalar words.insts id) inst) ≡ true
+  target_was id inst is = by_scalar (constant_scalar (changed plan words.insts) id) refl is
+    where
+      by_target : (target : Option ℕ) → is_to_merge_of_loop (changed plan words.insts) target ≡ true → is_to_merge_of_loop words.insts target ≡ true
+      by_target None is = cc
+      by_target (Some label) is = merge_was label is
+
+      by_scalar : (found : Option Scalar) → constant_scalar (changed plan words.insts) id ≡ found → is_to_merge_of_loop (changed plan words.insts) (chosen_target found inst) ≡ true → is_to_merge_of_loop words.insts (chosen_target (constant_scalar words.insts id) inst) ≡ true
+      by_scalar None known is = cc
+      by_scalar (Some scalar) known is = ap (λ (o : Option Scalar). is_to_merge_of_loop words.insts (chosen_target o inst)) (constant_was is_unread words v plan s id scalar known) ∙ by_target (chosen_target (Some scalar) inst) is
+
+  -- what always leads one way did so before
+  module _ (place : ℕ) (low : v.derivation.before < place) (within : place < length (changed plan words.insts)) (f : SweptFrom words v plan place) where
+    constant_there : is_constant_scalar (changed plan words.insts) (word_at 0 (inst_at (changed plan words.insts) place)) ≡ true → is_constant_scalar words.insts (word_at 0 (inst_at words.insts f.old)) ≡ true
+    constant_there is = scalar_was is_unread words v plan s (word_at 0 (inst_at words.insts f.old)) (ap (λ (inst : Inst). is_constant_scalar (changed plan words.insts) (word_at 0 inst)) (sym f.same) ∙ is)
+
+    chose : chooses_constantly (changed plan words.insts) place ≡ true → chooses_constantly words.insts f.old ≡ true
+    chose is = carried ((inst_at (changed plan words.insts) place).op == op.BRANCH_CONDITIONAL) _ (is_behind op.SELECTION_MERGE (changed plan words.insts) place) _ (is_constant_scalar (changed plan words.insts) (word_at 0 (inst_at (changed plan words.insts) place))) _
+        (ap (λ (inst : Inst). inst.op == op.BRANCH_CONDITIONAL) f.same) (behind_same place f low within) constant_there is
+
+    leaves : leaves_at_once (changed plan words.insts) place ≡ true → leaves_at_once words.insts f.old ≡ true
+    leaves is = carried ((inst_at (changed plan words.insts) place).op == op.BRANCH_CONDITIONAL) _ (not (is_behind op.SELECTION_MERGE (changed plan words.insts) place)) _
+        (is_to_merge_of_loop (changed plan words.insts) (chosen_target (constant_scalar (changed plan words.insts) (word_at 0 (inst_at (changed plan words.insts) place))) (inst_at (changed plan words.insts) place))) _
+        (ap (λ (inst : Inst). inst.op == op.BRANCH_CONDITIONAL) f.same) (ap not (behind_same place f low within))
+        (λ to. target_was (word_at 0 (inst_at words.insts f.old)) (inst_at words.insts f.old)
+        (ap (λ (inst : Inst). is_to_merge_of_loop (changed plan words.insts) (chosen_target (constant_scalar (changed plan words.insts) (word_at 0 inst)) inst)) (sym f.same) ∙ to)) is
+
+    switched : (intervals : List Interval) → AreBounded words.insts v.derivation.after intervals
+        → switches_constantly (map (moved plan words.insts) intervals) (changed plan words.insts) place ≡ true → switches_constantly intervals words.insts f.old ≡ true
+    switched intervals bounded is = carried_over ((inst_at (changed plan words.insts) place).op == op.SWITCH) _ (is_constant_scalar (changed plan words.insts) (word_at 0 (inst_at (changed plan words.insts) place))) _ (not (lone (changed plan words.insts) (map (moved plan words.insts) intervals) place)) _
+        (ap (λ (inst : Inst). inst.op == op.SWITCH) f.same) constant_there (ap not lone_same) is
+      where
+        lone : List Inst → List Interval → ℕ → Bool
+        lone insts intervals place = (length (inst_at insts place).words == 2) && is_left_from_within intervals insts (word_at 1 (inst_at insts place)) (word_at 0 (inst_at insts (place - 1)))
+
+        is_switch : (inst_at words.insts f.old).op ≡ op.SWITCH
+        is_switch = eqb-true (inst_at words.insts f.old).op op.SWITCH
+            (ap (λ (inst : Inst). inst.op == op.SWITCH) (sym f.same)
+            ∙ first ((inst_at (changed plan words.insts) place).op == op.SWITCH) (is_constant_scalar (changed plan words.insts) (word_at 0 (inst_at (changed plan words.insts) place))) (first _ (not (lone (changed plan words.insts) (map (moved plan words.insts) intervals) place)) is))
+
+        before : inst_at (changed plan words.insts) (place - 1) ≡ inst_at words.insts (f.old - 1)
+        before =
+            let l = f.low in
+            let inside = stands_inside words v f.old op.SWITCH switch_inside is_switch in
+            ap (λ (n : ℕ). inst_at (changed plan words.insts) (n - 1)) (sym f.there)
+            ∙ merge_before f.old f.stays ((inside_at words.insts v.derivation.sequence f.old (omega (arith, l)) inside.1).switch is_switch)
+
+        lone_same : lone (changed plan words.insts) (map (moved plan words.insts) intervals) place ≡ lone words.insts intervals f.old
+        lone_same =
+            ap (λ (inst : Inst). (length inst.words == 2) && is_left_from_within (map (moved plan words.insts) intervals) (changed plan words.insts) (word_at 1 inst) (word_at 0 (inst_at (changed plan words.insts) (place - 1)))) f.same
+            ∙ ap (λ (inst : Inst). (length (inst_at words.insts f.old).words == 2) && is_left_from_within (map (moved plan words.insts) intervals) (changed plan words.insts) (word_at 1 (inst_at words.insts f.old)) (word_at 0 inst)) before
+            ∙ ap (λ (b : Bool). (length (inst_at words.insts f.old).words == 2) && b) (within_same intervals (word_at 1 (inst_at words.insts f.old)) (word_at 0 (inst_at words.insts (f.old - 1))) bounded)
+
+  -- ---- the intervals of the new list
+
+  remains_all : (i : Interval) → remains plan words.insts i ≡ true
+  unfolding is_joined
+  remains_all i = by_parts (is_dead (plan.fate i.from)) (list_any (is_arm_of plan words.insts i) (range_with_len 0 i.from)) (is_condition_left plan words.insts i) (never_dead is_unread words v plan s i.from)
+      (none_any (is_arm_of plan words.insts i) i.from 0 (λ at low less. no_arm at)) (no_condition i)
+    where
+      by_parts : (a b c : Bool) → a ≡ false → b ≡ false → c ≡ false → (not a && not (b || c)) ≡ true
+      by_parts a b c p q r = rw p (rw q (rw r refl))
+
+      both_no : (a b : Bool) → b ≡ false → (a && b) ≡ false
+      both_no true b is = is
+      both_no false b is = refl
+
+      no_arm : (at : ℕ) → is_arm_of plan words.insts i at ≡ false
+      no_arm at = both_no (is_behind op.SELECTION_MERGE words.insts at) (goes_to_begin words.insts i (plan.fate at)) (elim (s.fates at) [ inl same ↦ ap (goes_to_begin words.insts i) same | inr same ↦ ap (goes_to_begin words.insts i) same ])
+
+      no_condition : (i : Interval) → is_condition_left plan words.insts i ≡ false
+      no_condition i = both_no _ (is_skipped (plan.fate (i.from - 2))) (elim (s.fates (i.from - 2)) [ inl same ↦ ap is_skipped same | inr same ↦ ap is_skipped same ])
+
+  all_remain : (intervals : List Interval) → intervals_left plan words.insts intervals ≡ intervals
+  unfolding intervals_left
+  all_remain [] = refl
+  all_remain (i ∷ intervals) = ap (λ (b : Bool). if b then i ∷ filter (remains plan words.insts) intervals else filter (remains plan words.insts) intervals) (remains_all i) ∙ ap (λ (l : List Interval). i ∷ l) (all_remain intervals)
+
+  intervals_moved : (d : Derives words.insts) (after : Derives (changed plan words.insts)) → intervals_of after ≡ map (moved plan words.insts) (intervals_of v.derivation)
+  intervals_moved d after =
+      let l = plan_derives words v [] plan (swept_is_plan is_unread words v plan s []) in
+      one_intervals (changed plan words.insts) after l.derivation ∙ l.intervals ∙ ap (map (moved plan words.insts)) (all_remain (intervals_of v.derivation))
+
+  pub straight_swept : (d : Derives words.insts) (after : Derives (changed plan words.insts)) → is_straightened (intervals_of d) words.insts ≡ true → is_straightened (intervals_of after) (changed plan words.insts) ≡ true
+  straight_swept d after all =
+      ap (λ (l : List Interval). is_straightened l (changed plan words.insts)) (intervals_moved d after)
+      ∙ places_fail is_unread words v plan s
+      (λ place. chooses_constantly words.insts place || leaves_at_once words.insts place || switches_constantly (intervals_of v.derivation) words.insts place)
+      (λ place. chooses_constantly (changed plan words.insts) place || leaves_at_once (changed plan words.insts) place || switches_constantly (map (moved plan words.insts) (intervals_of v.derivation)) (changed plan words.insts) place)
+      (λ place low within f is. one_of_three (chooses_constantly (changed plan words.insts) place) (leaves_at_once (changed plan words.insts) place) (switches_constantly (map (moved plan words.insts) (intervals_of v.derivation)) (changed plan words.insts) place) _ _ _
+      (chose place low within f) (leaves place low within f) (switched place low within f (intervals_of v.derivation) (intervals_bounded words.insts v.derivation)) is)
+      (ap (λ (l : List Interval). is_straightened l words.insts) (one_intervals words.insts v.derivation d) ∙ all)
+
+  -- nothing comes to be known that wasn't
+  pub swept_reduced : StaysReduced (changed plan words.insts) words.insts
+  swept_reduced = record {
+    specialized = specialized_swept is_unread words v plan s;
+    folded = folded_swept is_unread words v plan s;
+    straightened = straight_swept;
+    fed = fed_swept is_unread words v plan s;
+  }
