@@ -78,7 +78,7 @@ defines_variable : defines (class_of op.VARIABLE) ≡ true
 unfolding class_of entry_of
 defines_variable = refl
 
-variable_id : (inst : Inst) → inst.op == op.VARIABLE ≡ true → result inst ≡ Some (word_at 1 inst)
+pub variable_id : (inst : Inst) → inst.op == op.VARIABLE ≡ true → result inst ≡ Some (word_at 1 inst)
 variable_id inst is = defined_id inst (ap (λ (o : ℕ). defines (class_of o)) (op_is inst.op op.VARIABLE is) ∙ defines_variable)
 
 -- an instruction's effect gives its own result a value

@@ -316,3 +316,4 @@ pub mod DroppedUsed
 pub mod IntervalBounds
 pub mod SweptReduced
 pub mod SweptStraight
+pub mod LoadedRoots
