@@ -317,3 +317,5 @@ pub mod IntervalBounds
 pub mod SweptReduced
 pub mod SweptStraight
 pub mod LoadedRoots
+pub mod DroppedOutputs
+pub mod SweptPruned

@@ -158,14 +158,14 @@ slot_found words v class location = by_found (find (is_variable_at (facts_of wor
     by_found (Some inst) found = (found_slot words v class location inst found).0
 
 -- no variable of a valid module is past the limit
-none_past : (words : Words) → IsValidList words → (class location : ℕ) → LOCATIONS ≤ location → slot_at (facts_of words.insts) words.insts class location ≡ None
+pub none_past : (words : Words) → IsValidList words → (class location : ℕ) → LOCATIONS ≤ location → slot_at (facts_of words.insts) words.insts class location ≡ None
 none_past words v class location past = by_found (find (is_variable_at (facts_of words.insts) class location) words.insts) refl
   where
     by_found : (o : Option Inst) → find (is_variable_at (facts_of words.insts) class location) words.insts ≡ o → option_and_then (slot_of_variable (facts_of words.insts)) o ≡ None
     by_found None found = refl
     by_found (Some inst) found = let low = location_below words v (word_at 1 inst) location (found_slot words v class location inst found).1 in absurd (omega (arith, low, past))
 
-slots_at : (f : ℕ → Option Slot) (location : ℕ) → (LOCATIONS ≤ location → f location ≡ None) → slice_index_or (map f (range_with_len 0 LOCATIONS)) location None ≡ f location
+pub slots_at : (f : ℕ → Option Slot) (location : ℕ) → (LOCATIONS ≤ location → f location ≡ None) → slice_index_or (map f (range_with_len 0 LOCATIONS)) location None ≡ f location
 slots_at f zero past = refl
 slots_at f (suc zero) past = refl
 slots_at f (suc (suc zero)) past = refl

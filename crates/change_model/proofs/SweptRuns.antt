@@ -38,23 +38,23 @@ use Rattle.change_model.proofs.VariablesMean.{variable_means}
 
 -- ---- outputs that are read
 
-some_number : (word : ℕ) (o : Option ℕ) → is_number word o ≡ true → o ≡ Some word
+pub some_number : (word : ℕ) (o : Option ℕ) → is_number word o ≡ true → o ≡ Some word
 some_number word None is = cc
 some_number word (Some own) is = ap (λ (n : ℕ). Some n) (eqb-true own word is)
 
-both : (a b : Bool) → a ≡ true → b ≡ false → (a && not b) ≡ true
+pub both : (a b : Bool) → a ≡ true → b ≡ false → (a && not b) ≡ true
 both a b first second = rw first (rw second refl)
 
-nothing_read : (is_unread : ℕ → Bool) (o : Option ℕ) → is_some o ≡ false → is_unread_at is_unread o ≡ false
+pub nothing_read : (is_unread : ℕ → Bool) (o : Option ℕ) → is_some o ≡ false → is_unread_at is_unread o ≡ false
 nothing_read is_unread None none = refl
 nothing_read is_unread (Some location) none = cc
 
-is_interface : (input output lacks : Bool) → output ≡ true → ((input || output) && lacks) ≡ false → lacks ≡ false
+pub is_interface : (input output lacks : Bool) → output ≡ true → ((input || output) && lacks) ≡ false → lacks ≡ false
 is_interface true output lacks is bad = bad
 is_interface false true lacks is bad = bad
 is_interface false false lacks is bad = cc
 
-variable_there : (words : Words) (at : ℕ) → (inst_at words.insts at).op == op.VARIABLE ≡ true → at < length words.insts
+pub variable_there : (words : Words) (at : ℕ) → (inst_at words.insts at).op == op.VARIABLE ≡ true → at < length words.insts
 variable_there words at is = elim (cases_lt at (length words.insts)) [
   | inl within ↦ within
   | inr past ↦ never (sym (ap (λ (i : Inst). i.op == op.VARIABLE) (get_or_past words.insts at no_instruction past)) ∙ is)
@@ -64,7 +64,7 @@ variable_there words at is = elim (cases_lt at (length words.insts)) [
     never is = cc
 
 -- a built-in has no location
-no_location : (place built_in : Bool) → built_in ≡ true → lacks_place place built_in ≡ false → place ≡ false
+pub no_location : (place built_in : Bool) → built_in ≡ true → lacks_place place built_in ≡ false → place ≡ false
 no_location true true is bad = cc
 no_location true false is bad = cc
 no_location false built_in is bad = refl
