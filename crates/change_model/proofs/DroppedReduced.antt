@@ -107,7 +107,7 @@ specialized_dropped gone (inst ∷ insts) all = by_test (is_dropped gone inst) r
 -- ---- constants
 
 -- what defines an id is no entry point
-defined_no_entry : (insts : List Inst) (id at : ℕ) → definition insts id ≡ Some at → (inst_at insts at).op == op.ENTRY_POINT ≡ false
+pub defined_no_entry : (insts : List Inst) (id at : ℕ) → definition insts id ≡ Some at → (inst_at insts at).op == op.ENTRY_POINT ≡ false
 defined_no_entry insts id at defined = by_test ((inst_at insts at).op == op.ENTRY_POINT) refl
   where
     by_test : (b : Bool) → (inst_at insts at).op == op.ENTRY_POINT ≡ b → (inst_at insts at).op == op.ENTRY_POINT ≡ false

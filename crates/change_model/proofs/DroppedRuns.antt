@@ -216,7 +216,7 @@ third a b base rest = by_tests (a == base) (b == base) (base == base) (eq-eqb ba
     by_tests false true z is = refl
     by_tests false false z is = rw is refl
 
-base_among : (a b base : ℕ) (words : List ℕ) (found : Option (List Operand))
+pub base_among : (a b base : ℕ) (words : List ℕ) (found : Option (List Operand))
     → is_some (option_map (λ (k : List Operand). IdResultType ∷ k) (option_map (λ (k : List Operand). IdResult ∷ k) (option_map (λ (k : List Operand). IdRef ∷ k) found))) ≡ true
     → is_among base (ids_by (option_map (λ (k : List Operand). IdResultType ∷ k) (option_map (λ (k : List Operand). IdResult ∷ k) (option_map (λ (k : List Operand). IdRef ∷ k) found))) (a ∷ b ∷ base ∷ words)) ≡ true
 base_among a b base words None has = cc

@@ -319,3 +319,4 @@ pub mod SweptStraight
 pub mod LoadedRoots
 pub mod DroppedOutputs
 pub mod SweptPruned
+pub mod SweptRoots

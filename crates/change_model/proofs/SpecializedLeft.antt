@@ -79,7 +79,7 @@ no_specialization inst isnt = neither (is_spec_class (class_of inst.op)) (inst.o
 
 -- ---- of a list
 
-all_at : (p : Inst → Bool) (insts : List Inst) → ((k : ℕ) → k < length insts → p (inst_at insts k) ≡ true) → list_all p insts ≡ true
+pub all_at : (p : Inst → Bool) (insts : List Inst) → ((k : ℕ) → k < length insts → p (inst_at insts k) ≡ true) → list_all p insts ≡ true
 all_at p [] each = refl
 all_at p (inst ∷ insts) each = both (p inst) (list_all p insts) (each zero (omega arith)) (all_at p insts (λ k less. each (suc k) (omega (arith, less))))
   where

@@ -125,7 +125,7 @@ module _ (is_unread : ℕ → Bool) (words : Words) (v : IsValidList words) (pla
   pub first_within : v.derivation.before < length words.insts
   first_within = within_list op.FUNCTION insts v.derivation.before v.derivation.begins.function
 
-  got_there : (place : ℕ) (inst : Inst) → slice_get (changed plan words.insts) place ≡ Some inst → inst_at (changed plan words.insts) place ≡ inst
+  pub got_there : (place : ℕ) (inst : Inst) → slice_get (changed plan words.insts) place ≡ Some inst → inst_at (changed plan words.insts) place ≡ inst
   got_there place inst is = get_or_from_slice_get new place inst no_instruction is
 
   pub kept_at_left : (old : ℕ) → v.derivation.before ≤ old → old < length words.insts → plan.fate old ≡ Stays → slice_get (changed plan words.insts) (place_left plan words.insts old) ≡ Some (inst_at words.insts old)
