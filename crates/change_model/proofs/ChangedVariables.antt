@@ -5,6 +5,8 @@ use Rattle.std.specs.Option.{option_map}
 use Rattle.std.specs.List.{find}
 use Rattle.std.proofs.lemmas.Bool.{cases_lt}
 use Rattle.spirv_model.specs.declared.module.Inst.{Inst}
+use Rattle.spirv_model.specs.declared.module.Words.{Words}
+use Rattle.check_model.specs.Validity.{IsValidList}
 use Rattle.spirv_model.specs.declared.op.TheConstants as op
 use Rattle.spirv_model.specs.declared.storage_class.TheConstants as storage_class
 use Rattle.spirv_model.specs.Operands.{word_at, entry_of, class_of}
@@ -48,10 +50,10 @@ unfolding class_of entry_of
 no_variables = record { function = refl; function_end = refl; branch = refl; switch = refl; constant = refl }
 
 -- a variable behind the module's level is of class Function
-pub variable_old : (g : Planned) (k : ℕ) → function_at g.words.insts ≤ k → k < length g.words.insts → (inst_at g.words.insts k).op == op.VARIABLE ≡ true → word_at 2 (inst_at g.words.insts k) == storage_class.FUNCTION ≡ true
-variable_old g k low within is = elim (cases_lt d.before k) [
+pub variable_behind : (words : Words) (v : IsValidList words) (k : ℕ) → function_at words.insts ≤ k → k < length words.insts → (inst_at words.insts k).op == op.VARIABLE ≡ true → word_at 2 (inst_at words.insts k) == storage_class.FUNCTION ≡ true
+variable_behind words v k low within is = elim (cases_lt d.before k) [
   | inl more ↦ elim (cases_lt k d.after) [
-    | inl early ↦ class_is g.words g.valid k (omega (arith, more)) early is
+    | inl early ↦ class_is words v k (omega (arith, more)) early is
     | inr late ↦ let last = d.last in let e : d.after ≡ k = omega (arith, late, within, last) in
         absurd (clash ((inst_at insts k).op == op.VARIABLE) is (ap (λ (o : ℕ). o == op.VARIABLE) (ap (λ (n : ℕ). (inst_at insts n).op) (sym e) ∙ end_op insts d) ∙ no_variables.function_end))
   ]
@@ -60,10 +62,13 @@ variable_old g k low within is = elim (cases_lt d.before k) [
 ]
   where
     insts : List Inst
-    insts = g.words.insts
+    insts = words.insts
 
-    d : Derives g.words.insts
-    d = g.valid.derivation
+    d : Derives words.insts
+    d = v.derivation
+
+pub variable_old : (g : Planned) (k : ℕ) → function_at g.words.insts ≤ k → k < length g.words.insts → (inst_at g.words.insts k).op == op.VARIABLE ≡ true → word_at 2 (inst_at g.words.insts k) == storage_class.FUNCTION ≡ true
+variable_old g = variable_behind g.words g.valid
 
 pub written_variable : (g : Planned) (old : ℕ) (inst : Inst) → IsWritten g old inst → inst.op == op.VARIABLE ≡ true → inst_at g.words.insts old ≡ inst
 written_variable g old inst (goes label same may at) is = absurd (clash (inst.op == op.VARIABLE) is (ap (λ (i : Inst). i.op == op.VARIABLE) (sym at) ∙ no_variables.branch))

@@ -320,3 +320,5 @@ pub mod LoadedRoots
 pub mod DroppedOutputs
 pub mod SweptPruned
 pub mod SweptRoots
+pub mod DroppedLoads
+pub mod PrunedOutputs
