@@ -322,3 +322,4 @@ pub mod SweptPruned
 pub mod SweptRoots
 pub mod DroppedLoads
 pub mod PrunedOutputs
+pub mod SweptDrops

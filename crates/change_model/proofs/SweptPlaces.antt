@@ -137,7 +137,7 @@ module _ (is_unread : ℕ → Bool) (words : Words) (v : IsValidList words) (pla
       ∙ ap (λ (i : Inst). i.op) (got_there (place_left plan insts v.derivation.before) (inst_at insts v.derivation.before) (kept_at_left v.derivation.before (omega arith) first_within first_stays))
       ∙ function_op insts v.derivation
 
-  first_new_within : v.derivation.before < length (changed plan words.insts)
+  pub first_new_within : v.derivation.before < length (changed plan words.insts)
   first_new_within = let l = got_within new (place_left plan insts v.derivation.before) (inst_at insts v.derivation.before) (kept_at_left v.derivation.before (omega arith) first_within first_stays) in let e = first_left in omega (arith, l, e)
 
   -- different instructions stand at different places, in their order

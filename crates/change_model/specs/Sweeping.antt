@@ -1,5 +1,6 @@
 -- What is swept out of a function: results that nothing needs, and stores to variables that nothing loads from.
-use Rattle.std.specs.Prelude.{◌≡◌, ℕ, ◌<◌, ◌≤◌, ◌==◌, ◌⊎◌, Bool, true, false, not, ◌&&◌, ◌||◌, List, Option, None, Some}
+use Rattle.std.specs.Prelude.{◌≡◌, ℕ, ◌<◌, ◌≤◌, ◌==◌, ◌⊎◌, Bool, true, false, not, ◌&&◌, ◌||◌, List, length, Option, None, Some}
+use Rattle.std.specs.List.{list_any}
 use Rattle.spirv_model.specs.declared.module.Inst.{Inst}
 use Rattle.spirv_model.specs.declared.module.Words.{Words}
 use Rattle.spirv_model.specs.declared.op.TheConstants as op
@@ -15,6 +16,7 @@ use Rattle.valid_model.specs.DecorationWords.{decoration_of}
 use Rattle.valid_model.specs.Meanings.{meaning}
 use Rattle.check_model.specs.Validity.{IsValidList}
 use Rattle.change_model.specs.declared.fate.Fate.TheVariants.{Stays, Unused}
+use Rattle.change_model.specs.Dropping.{is_dropped, IsOfLevel}
 use Rattle.change_model.specs.Plans.{Plan}
 use Rattle.change_model.specs.PlanRules.{root_of, is_shape}
 
@@ -86,3 +88,14 @@ pub record IsSwept (is_unread : ℕ → Bool) (words : Words) (v : IsValidList w
   -- a store to a variable that nobody reads goes
   pub stores : (place : ℕ) → v.derivation.before < place → place < v.derivation.after → plan.fate place ≡ Stays
       → (inst_at words.insts place).op ≡ op.STORE → plan.is_unread (root_of words.insts (word_at 0 (inst_at words.insts place))) ≡ false
+
+-- ---- what goes with it
+
+-- Variables and constants that go with what is swept: nothing that stays names one, none is an output that is read, and each output is
+-- among them that nobody reads and no load that stays reads from.
+pub record MayGo (is_unread : ℕ → Bool) (words : Words) (v : IsValidList words) (plan : Plan) (gone : ℕ → Bool) : Type 0 where
+  pub level : (id : ℕ) → gone id ≡ true → IsOfLevel words v id
+  pub unused : (place : ℕ) → place < length words.insts → plan.fate place ≡ Stays → is_dropped gone (inst_at words.insts place) ≡ false
+      → (inst_at words.insts place).op == op.ENTRY_POINT ≡ false → list_any gone (ids (inst_at words.insts place)) ≡ false
+  pub read : (id : ℕ) → is_read_output is_unread words.insts id ≡ true → gone id ≡ false
+  pub unread : (id : ℕ) → is_output_of (meaning words.insts id) ≡ true → plan.is_unread id ≡ true → gone id ≡ true
