@@ -323,3 +323,4 @@ pub mod SweptRoots
 pub mod DroppedLoads
 pub mod PrunedOutputs
 pub mod SweptDrops
+pub mod Prunes

@@ -43,7 +43,7 @@ use Rattle.change_model.proofs.SweptRoots.{load_names, swept_root}
 use Rattle.change_model.proofs.VariablesMean.{variable_means}
 
 -- the locations that the next stage doesn't read
-abbrev unread_by : Iface → ℕ → Bool
+abbrev pub unread_by : Iface → ℕ → Bool
 unread_by read location = not (is_some (slot_of read location))
 
 no_slot : (read : Iface) (location : Option ℕ) → is_some location ≡ true → not (has_slot read location) ≡ true → is_unread_at (unread_by read) location ≡ true
