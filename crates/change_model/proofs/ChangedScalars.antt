@@ -1,5 +1,5 @@
 -- An id that is a constant scalar by what becomes of the instruction that defines it is one in the list that the plan makes.
-use Rattle.std.proofs.Common.{◌≡◌, ℕ, ◌<◌, ◌≤◌, ◌==◌, ◌||◌, inl, inr, Bool, true, false, if◌then◌else◌, List, [], ◌∷◌, length, refl, ap, sym, ◌∙◌, arith, Option, None, Some}
+use Rattle.std.proofs.Common.{◌≡◌, ℕ, ◌<◌, ◌≤◌, ◌==◌, inl, inr, Bool, true, false, if◌then◌else◌, List, [], ◌∷◌, length, refl, ap, sym, ◌∙◌, arith, Option, None, Some}
 use Rattle.std.specs.Option.{option_and_then}
 use Rattle.std.proofs.lemmas.Bool.{cases_lt}
 use Rattle.spirv_model.specs.declared.module.Inst.{Inst}
@@ -24,16 +24,15 @@ use Rattle.change_model.specs.declared.fate.Fate.{Fate}
 use Rattle.change_model.specs.declared.fate.Fate.TheVariants.{Dead, Stays, Goes, Picks, Folds, Nulls, Resolves, Skips, Unused}
 use Rattle.change_model.specs.Constants.{scalar_constant}
 use Rattle.change_model.specs.Folding.{function_at}
-use Rattle.change_model.specs.Plans.{Plan, constant_as, constant_at, changed, listed}
-use Rattle.change_model.specs.PlanRules.{scalar_as, scalar_of, scalar_left, stays}
+use Rattle.change_model.specs.Plans.{constant_as, constant_at, changed, listed}
+use Rattle.change_model.specs.PlanRules.{scalar_as, scalar_of, scalar_left}
 use Rattle.change_model.specs.Settling.{is_plain_constant_class}
 use Rattle.change_model.proofs.BehindLevel.{FailsInFunction, fails_function}
 use Rattle.change_model.proofs.ChangedDefinitions.{constant_defined, new_constant_there, scalar_listed, level_defined}
 use Rattle.change_model.proofs.ChangedMeanings.{level_inst}
-use Rattle.change_model.proofs.ChangedPlaces.{constant_left}
 use Rattle.change_model.proofs.ChangedShapes.{shape_in, shapes_changed}
 use Rattle.change_model.proofs.MovedUp.{function_is}
-use Rattle.change_model.proofs.Planned.{Planned, IsInside, inside}
+use Rattle.change_model.proofs.Planned.{Planned, inside}
 use Rattle.change_model.proofs.Settlings.{op_is}
 
 -- ---- constants stand at the module's level

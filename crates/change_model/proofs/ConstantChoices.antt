@@ -1,32 +1,30 @@
 -- In a valid module a constant condition is a truth value, and a constant selector a word; so it is known where such a branch leads.
-use Rattle.std.proofs.Common.{◌≡◌, ℕ, ◌<◌, ◌==◌, Bool, true, false, if◌then◌else◌, List, [], ◌∷◌, length, refl, ap, sym, ◌∙◌, subst, Option, None, Some}
+use Rattle.std.proofs.Common.{◌≡◌, ℕ, ◌<◌, ◌==◌, Bool, true, false, List, [], ◌∷◌, length, refl, ap, sym, ◌∙◌, Some}
 use Rattle.std.proofs.lemmas.Bool.{eq-eqb}
 use Rattle.spirv_model.specs.declared.module.Inst.{Inst}
 use Rattle.spirv_model.specs.declared.module.Words.{Words}
-use Rattle.spirv_model.specs.declared.class.Class.{Class}
 use Rattle.spirv_model.specs.declared.class.Class.TheVariants as class
 use Rattle.spirv_model.specs.declared.op.TheConstants as op
-use Rattle.spirv_model.specs.Operands.{word_at, words_from, class_of, entry_of}
+use Rattle.spirv_model.specs.Operands.{word_at, class_of, entry_of}
 use Rattle.scalar_model.specs.declared.scalar_value.Scalar.{Scalar}
 use Rattle.scalar_model.specs.declared.scalar_value.Scalar.TheVariants.{Bool as TruthOf, Word as WordOf}
 use Rattle.valid_model.specs.Definitions.{inst_at}
 use Rattle.valid_model.specs.Knowledge.{is_bool, is_integer}
 use Rattle.valid_model.specs.ModuleFacts.{is_vertex, facts_of}
-use Rattle.check_model.specs.OperandTypes.{operands_fit_class, terminator_operands_fit}
+use Rattle.check_model.specs.OperandTypes.{operands_fit_class}
 use Rattle.check_model.specs.Typing.{constant_word, typing_of, type_of}
 use Rattle.check_model.specs.Validity.{IsValidList}
-use Rattle.stage_model.specs.Value.{Value, Truth, Word}
+use Rattle.stage_model.specs.Value.{Truth, Word}
 use Rattle.stage_model.specs.Program.{Program, program_of}
 use Rattle.stage_model.specs.Start.{Memory, of_scalar}
 use Rattle.stage_model.specs.Effect.{Effect, effect_of}
-use Rattle.typed_model.specs.Types.{HasTypes, typing_in, Suits}
+use Rattle.typed_model.specs.Types.{typing_in}
 use Rattle.typed_model.specs.Effects.{Runs}
 use Rattle.typed_model.proofs.EffectsRun.{instruction}
 use Rattle.typed_model.proofs.PlainRuns.{conditional_runs, switch_runs}
 use Rattle.typed_model.proofs.ValidModules.{valid_sound}
 use Rattle.typed_model.proofs.ValidTypes.{valid_types}
-use Rattle.unit_model.specs.ConstantScalars.{constant_scalar, chosen_target}
-use Rattle.change_model.specs.PlanRules.{switched_target}
+use Rattle.unit_model.specs.ConstantScalars.{constant_scalar}
 use Rattle.change_model.proofs.FoldsThere.{suits_one, fit_by, taken, left_out}
 
 -- ---- what runs

@@ -9,11 +9,10 @@ use Rattle.check_model.specs.Validity.{IsValidList}
 use Rattle.state_model.specs.declared.parts.SpecValues.{SpecValues}
 use Rattle.state_model.specs.declared.buffers.Buffers.{Buffers}
 use Rattle.stage_model.specs.declared.inputs.Inputs.{Inputs}
-use Rattle.stage_model.specs.declared.outcome.Kind.{Kind}
 use Rattle.stage_model.specs.Program.{program_of}
 use Rattle.stage_model.specs.Start.{Values, defined_by}
-use Rattle.stage_model.specs.Machine.{State, Machine}
-use Rattle.stage_model.specs.Stage.{Given, Outcome, start_at, first_label, stage}
+use Rattle.stage_model.specs.Machine.{State}
+use Rattle.stage_model.specs.Stage.{Given, start_at, stage}
 use Rattle.typed_model.proofs.RunningStart.{first_label_is, start_here}
 use Rattle.change_model.specs.Dropping.{dropped, dropped_words, MayDrop}
 use Rattle.change_model.specs.Keeping.{given, IsKeptBut, KeepsOutcomeBut}

@@ -1,5 +1,5 @@
 -- The function is structured as it was where variables and constants are dropped.
-use Rattle.std.proofs.Common.{◌≡◌, ℕ, zero, suc, ◌+◌, ◌-◌, ◌<◌, ◌≤◌, ◌==◌, Bool, true, false, not, cond, List, [], ◌∷◌, length, take, drop, refl, ap, sym, ◌∙◌, subst, arith, None}
+use Rattle.std.proofs.Common.{◌≡◌, ℕ, suc, ◌≤◌, Bool, true, false, List, [], ◌∷◌, length, take, refl, ap, sym, subst, arith, None}
 use Rattle.std.specs.Prelude.{All, IsTrue}
 use Rattle.std.proofs.lemmas.List.{length-take-le}
 use Rattle.std.proofs.lemmas.List.Elements.{All-nil, All-cons, All-head, All-tail, All-same}
@@ -8,10 +8,8 @@ use Rattle.spirv_model.specs.declared.module.Words.{Words}
 use Rattle.spirv_model.specs.declared.op.TheConstants as op
 use Rattle.body_model.specs.Classes.{is_module_level}
 use Rattle.body_model.specs.Grammar.{Derives}
-use Rattle.body_model.specs.Code.{code_of}
 use Rattle.body_model.proofs.ModuleLevels.{within_list}
 use Rattle.valid_model.specs.FirstFault.{type_fault}
-use Rattle.check_model.specs.Intervals.{Interval, intervals_of}
 use Rattle.check_model.specs.Validity.{IsValidList}
 use Rattle.change_model.specs.Dropping.{is_dropped, entry_without, dropped, dropped_words, MayDrop}
 use Rattle.change_model.proofs.DroppedPlaces.{dropped_before, dropped_parts, entry_op}

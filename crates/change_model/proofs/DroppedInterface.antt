@@ -1,5 +1,5 @@
 -- Where variables and constants are dropped, inputs are flat and locations are had once as before, and the stage is the same.
-use Rattle.std.proofs.Common.{◌≡◌, ℕ, suc, ◌<◌, ◌≤◌, ◌==◌, ◌&&◌, ◌||◌, Bool, true, false, not, cond, nat_le, if◌then◌else◌, List, [], ◌∷◌, length, map, refl, ap, sym, ◌∙◌, subst, arith, Option, None, Some, is_some}
+use Rattle.std.proofs.Common.{◌≡◌, ℕ, ◌≤◌, ◌==◌, ◌&&◌, ◌||◌, Bool, true, false, not, cond, nat_le, if◌then◌else◌, List, [], ◌∷◌, length, refl, ap, sym, ◌∙◌, subst, arith, Option, None, Some, is_some}
 use Rattle.std.specs.Prelude.{filter}
 use Rattle.std.specs.List.{find, list_any, range_with_len}
 use Rattle.std.proofs.lemmas.Bool.Decides.{nat_tests}
@@ -12,9 +12,8 @@ use Rattle.spirv_model.specs.declared.decoration.TheConstants.{LOCATION, FLAT}
 use Rattle.spirv_model.specs.declared.storage_class.TheConstants as storage_class
 use Rattle.spirv_model.specs.Operands.{word_at}
 use Rattle.valid_model.specs.EarlierFacts.{is_variable_of}
-use Rattle.valid_model.specs.ModuleFacts.{ModuleFacts, facts_of, is_word, is_vertex, is_decorated}
-use Rattle.check_model.specs.declared.stage.Stage.{Stage}
-use Rattle.check_model.specs.Interfaces.{is_variable_at, variables_at, lowest_location, is_smooth, has_smooth_input, not_flat, are_two, location_twice, stage_of}
+use Rattle.valid_model.specs.ModuleFacts.{ModuleFacts, facts_of, is_word, is_vertex}
+use Rattle.check_model.specs.Interfaces.{is_variable_at, lowest_location, is_smooth, has_smooth_input, not_flat, are_two, location_twice, stage_of}
 use Rattle.check_model.specs.Validity.{IsValidList}
 use Rattle.typed_model.proofs.BlockParts.{clash}
 use Rattle.change_model.specs.Dropping.{is_dropped, entry_without, dropped, MayDrop}

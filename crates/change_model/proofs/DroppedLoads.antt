@@ -1,7 +1,7 @@
 -- A load of the function still stands in it where variables and constants are dropped, and reads the variable that it read.
-use Rattle.std.proofs.Common.{◌≡◌, ℕ, ◌+◌, ◌-◌, ◌<◌, ◌≤◌, ◌==◌, Bool, true, false, List, [], ◌∷◌, ◌||◌, refl, length, ap, sym, ◌∙◌, arith, Some, is_some}
+use Rattle.std.proofs.Common.{◌≡◌, ℕ, ◌+◌, ◌-◌, ◌<◌, ◌==◌, Bool, true, false, List, [], ◌∷◌, ◌||◌, refl, length, ap, sym, ◌∙◌, arith, Some}
 use Rattle.std.specs.List.{list_any}
-use Rattle.std.proofs.lemmas.Bool.{cases_lt, eqb-true, eq-eqb}
+use Rattle.std.proofs.lemmas.Bool.{eqb-true}
 use Rattle.spirv_model.specs.declared.module.Inst.{Inst}
 use Rattle.spirv_model.specs.declared.module.Words.{Words}
 use Rattle.spirv_model.specs.declared.op.TheConstants as op
@@ -11,7 +11,7 @@ use Rattle.valid_model.specs.Definitions.{definition, inst_at}
 use Rattle.check_model.specs.Storage.{is_in_function}
 use Rattle.check_model.specs.Validity.{IsValidList}
 use Rattle.typed_model.proofs.ValidModules.{valid_sound}
-use Rattle.change_model.specs.Dropping.{dropped, dropped_words, is_dropped, MayDrop}
+use Rattle.change_model.specs.Dropping.{dropped, dropped_words, MayDrop}
 use Rattle.change_model.specs.PlanRules.{root_of}
 use Rattle.unit_model.specs.UsedInterface.{is_loaded}
 use Rattle.change_model.proofs.DroppedFunction.{function_sooner}

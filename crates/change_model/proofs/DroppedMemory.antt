@@ -1,6 +1,5 @@
 -- Variables that stay begin with the same words where others are dropped.
-use Rattle.std.proofs.Common.{◌≡◌, ℕ, ◌+◌, ◌==◌, Bool, true, false, List, [], ◌∷◌, refl, ap, sym, ◌∙◌, Option, None, Some}
-use Rattle.spirv_model.specs.declared.module.Inst.{Inst}
+use Rattle.std.proofs.Common.{◌≡◌, ℕ, ◌+◌, Bool, true, false, List, [], ◌∷◌, refl, ap, ◌∙◌, Option, None, Some}
 use Rattle.spirv_model.specs.declared.module.Words.{Words}
 use Rattle.spirv_model.specs.declared.decoration.TheConstants.{ARRAY_STRIDE, BUILT_IN, LOCATION, BINDING, DESCRIPTOR_SET}
 use Rattle.valid_model.specs.declared.meaning.Meaning.{Meaning}
@@ -16,7 +15,6 @@ use Rattle.stage_model.specs.Start.{class_word, variable_word, first_memory}
 use Rattle.typed_model.proofs.BlockParts.{clash}
 use Rattle.change_model.specs.Dropping.{dropped, MayDrop}
 use Rattle.change_model.specs.PlanRules.{is_shape}
-use Rattle.change_model.proofs.ChangedShapes.{shape_in}
 use Rattle.change_model.proofs.DroppedDecorations.{decoration_kept, offset_kept}
 use Rattle.change_model.proofs.DroppedMeanings.{meaning_kept, shapes_dropped}
 use Rattle.change_model.proofs.DroppedStarts.{type_dropped}

@@ -1,6 +1,5 @@
 -- Operands fit and storage is right where variables and constants are dropped.
-use Rattle.std.proofs.Common.{◌≡◌, ℕ, ◌+◌, ◌<◌, ◌≤◌, ◌==◌, ◌||◌, Bool, true, false, not, if◌then◌else◌, List, [], ◌∷◌, ◌++◌, length, map, take, drop, refl, ap, sym, ◌∙◌, subst, arith, Option, None, Some, is_some}
-use Rattle.std.specs.List.{list_any, list_all}
+use Rattle.std.proofs.Common.{◌≡◌, ℕ, ◌==◌, Bool, true, false, if◌then◌else◌, List, [], ◌∷◌, refl, ap, sym, ◌∙◌, subst, Option, None, Some, is_some}
 use Rattle.std.specs.Option.{option_map, option_and_then}
 use Rattle.spirv_model.specs.declared.module.Inst.{Inst}
 use Rattle.spirv_model.specs.declared.module.Words.{Words}
@@ -10,24 +9,20 @@ use Rattle.spirv_model.specs.declared.execution_model.TheConstants.{VERTEX}
 use Rattle.spirv_model.specs.declared.op.TheConstants as op
 use Rattle.spirv_model.specs.declared.table.Operand.{Operand}
 use Rattle.spirv_model.specs.declared.table.Operand.TheVariants.{IdRef}
-use Rattle.spirv_model.specs.Operands.{word_at, kinds, class_of, entry_of}
-use Rattle.body_model.specs.Classes.{is_plain_class}
+use Rattle.spirv_model.specs.Operands.{word_at, kinds, class_of}
 use Rattle.valid_model.specs.declared.meaning.Meaning.{Meaning}
-use Rattle.valid_model.specs.declared.meaning.Meaning.TheVariants.{Variable}
 use Rattle.valid_model.specs.Definitions.{definition, inst_at}
-use Rattle.valid_model.specs.Meanings.{meaning}
-use Rattle.valid_model.specs.ModuleFacts.{ModuleFacts, facts_of, is_word, is_vertex}
+use Rattle.valid_model.specs.ModuleFacts.{is_word}
 use Rattle.check_model.specs.OperandTypes.{operands_fit_class, operands_fit, incoming_fits}
-use Rattle.check_model.specs.Storage.{points_to_read_only, is_in_function, is_wrong_storage}
+use Rattle.check_model.specs.Storage.{points_to_read_only, is_wrong_storage}
 use Rattle.check_model.specs.Typing.{Typing, typing_of, type_id, type_of, constant_in, constant_word}
-use Rattle.check_model.specs.Validity.{IsValidList, has_bad_operands, has_wrong_storage}
+use Rattle.check_model.specs.Validity.{IsValidList}
 use Rattle.check_model.specs.Visibility.{Incoming, incoming, used_ids}
 use Rattle.typed_model.proofs.PlainRuns.{at_op}
 use Rattle.typed_model.proofs.ReadTypes.{Each}
 use Rattle.typed_model.proofs.ResultIds.{is_named, named}
-use Rattle.typed_model.proofs.ValidModules.{valid_sound, valid_stored}
 use Rattle.typed_model.proofs.ValidTypes.{defined_within}
-use Rattle.change_model.specs.Dropping.{is_dropped, entry_without, dropped, dropped_words, MayDrop}
+use Rattle.change_model.specs.Dropping.{entry_without, dropped, MayDrop}
 use Rattle.change_model.specs.Plans.{renamed_words, renamed_by}
 use Rattle.change_model.proofs.AlikeEnds.{end_fit}
 use Rattle.change_model.proofs.AlikeScalars.{incoming_alike}
@@ -36,13 +31,13 @@ use Rattle.change_model.proofs.AlikeWords.{plain_fit}
 use Rattle.change_model.proofs.ChangedShapes.{shape_in}
 use Rattle.change_model.proofs.DroppedDefinitions.{definition_kept, definition_stays}
 use Rattle.change_model.proofs.DroppedFacts.{facts_dropped}
-use Rattle.change_model.proofs.DroppedMeanings.{meaning_kept, shapes_dropped, names_stay}
-use Rattle.change_model.proofs.DroppedPlaces.{dropped_left, KeptPlace, kept_place, entry_same, entry_op}
+use Rattle.change_model.proofs.DroppedMeanings.{meaning_kept, shapes_dropped}
+use Rattle.change_model.proofs.DroppedPlaces.{dropped_left, kept_place, entry_same, entry_op}
 use Rattle.change_model.proofs.NamedAlike.{typing_numbers}
 use Rattle.change_model.proofs.NamedTypes.{fit_as, typing_means}
-use Rattle.change_model.proofs.PlanOperands.{HasRule, plain, phi, ending, free, rule_of, no_plain_phi, no_ending_phi, not_phi}
+use Rattle.change_model.proofs.PlanOperands.{HasRule, plain, phi, ending, free, rule_of}
 use Rattle.change_model.proofs.PlanRunsRenamed.{renamed}
-use Rattle.change_model.proofs.PlanStorage.{store_words, storage_of_none, storage_of_store}
+use Rattle.change_model.proofs.PlanStorage.{store_words, storage_of_store}
 use Rattle.change_model.proofs.SeenBehind.{pairs_alike}
 use Rattle.change_model.proofs.Settlings.{op_is}
 use Rattle.change_model.proofs.StayingUses.{each_stays, used_stay, phi_stays}

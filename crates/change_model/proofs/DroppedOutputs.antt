@@ -1,5 +1,5 @@
 -- Where no output that is read goes, none goes that has a place among outputs that are read.
-use Rattle.std.proofs.Common.{◌≡◌, ℕ, ◌<◌, ◌==◌, ◌&&◌, Bool, true, false, length, ap, ◌∙◌, Option, None, Some, is_some}
+use Rattle.std.proofs.Common.{◌≡◌, ℕ, ◌<◌, ◌==◌, Bool, true, false, length, ap, ◌∙◌, Option, None, Some, is_some}
 use Rattle.std.specs.Prelude.{slice_index}
 use Rattle.std.proofs.lemmas.Bool.{eqb-true}
 use Rattle.spirv_model.specs.declared.module.Words.{Words}
@@ -14,7 +14,7 @@ use Rattle.valid_model.specs.Meanings.{meaning}
 use Rattle.valid_model.specs.ModuleFacts.{facts_of, is_word}
 use Rattle.check_model.specs.Validity.{IsValidList}
 use Rattle.stage_model.specs.Program.{program_of}
-use Rattle.stage_model.specs.Stage.{is_number, is_output_with}
+use Rattle.stage_model.specs.Stage.{is_number}
 use Rattle.change_model.specs.Dropping.{MayDrop}
 use Rattle.change_model.specs.Sweeping.{is_output_of, is_unread_at, is_read_output}
 use Rattle.change_model.proofs.DroppedLeft.{NoneGoes}

@@ -1,27 +1,23 @@
 -- Nothing that was known is left to be computed where variables and constants are dropped, and each result is used, if so it was before.
-use Rattle.std.proofs.Common.{◌≡◌, ℕ, zero, suc, ◌+◌, ◌-◌, ◌<◌, ◌≤◌, ◌==◌, ◌&&◌, ◌||◌, ◌⊎◌, not, if◌then◌else◌, inl, inr, Bool, true, false, List, [], ◌∷◌, length, map, filter, refl, ap, sym, ◌∙◌, subst, arith, Option, None, Some, is_some}
-use Rattle.std.specs.List.{list_all, list_any, range_with_len}
+use Rattle.std.proofs.Common.{◌≡◌, ℕ, zero, suc, ◌+◌, ◌-◌, ◌<◌, ◌≤◌, ◌==◌, ◌&&◌, ◌||◌, ◌⊎◌, not, if◌then◌else◌, inl, inr, Bool, true, false, List, [], ◌∷◌, length, filter, refl, ap, sym, ◌∙◌, arith, Option, None, Some, is_some}
+use Rattle.std.specs.List.{list_all, range_with_len}
 use Rattle.std.specs.Option.{option_map, option_and_then}
-use Rattle.std.proofs.lemmas.Bool.{cases_lt, eqb-true, eq-eqb}
+use Rattle.std.proofs.lemmas.Bool.{cases_lt, eqb-true}
 use Rattle.spirv_model.specs.declared.module.Inst.{Inst}
 use Rattle.spirv_model.specs.declared.module.Words.{Words}
 use Rattle.spirv_model.specs.declared.op.TheConstants as op
 use Rattle.spirv_model.specs.declared.decoration.TheConstants.{SPEC_ID}
-use Rattle.spirv_model.specs.Operands.{word_at, words_from, entry_of, class_of, ids, result}
+use Rattle.spirv_model.specs.Operands.{word_at, words_from, entry_of, class_of}
 use Rattle.scalar_model.specs.declared.scalar_value.Scalar.{Scalar}
-use Rattle.body_model.specs.Classes.{is_module_level}
 use Rattle.body_model.specs.Grammar.{Derives}
-use Rattle.body_model.specs.Switches.{is_among}
-use Rattle.body_model.specs.Targets.{targets}
 use Rattle.valid_model.specs.Definitions.{definition, inst_at}
 use Rattle.valid_model.specs.Meanings.{meaning}
-use Rattle.check_model.specs.Intervals.{Interval, intervals_of}
 use Rattle.check_model.specs.Storage.{is_in_function}
 use Rattle.check_model.specs.Validity.{IsValidList}
-use Rattle.typed_model.proofs.BlockParts.{another, clash}
+use Rattle.typed_model.proofs.BlockParts.{clash}
 use Rattle.typed_model.proofs.ValidTypes.{defined_within}
 use Rattle.unit_model.specs.ConstantScalars.{function_places, is_spec_class, is_specialization, is_specialized, null_scalar, scalar_by, constant_scalar, is_constant_scalar, is_scalar_class, is_foldable, is_folded}
-use Rattle.change_model.specs.Dropping.{is_dropped, entry_without, dropped, dropped_words, MayDrop}
+use Rattle.change_model.specs.Dropping.{is_dropped, entry_without, dropped, MayDrop}
 use Rattle.change_model.proofs.DroppedDefinitions.{definition_kept, definition_gone, definition_stays}
 use Rattle.change_model.proofs.DroppedMeanings.{shapes_dropped}
 use Rattle.change_model.proofs.DroppedPlaces.{entry_silent, dropped_left, kept_place, entry_same, entry_op, dropped_before, function_inst, function_length}
@@ -29,11 +25,11 @@ use Rattle.change_model.proofs.DroppedDoes.{function_moved}
 use Rattle.change_model.proofs.DroppedFunction.{function_sooner}
 use Rattle.change_model.proofs.DroppedValid.{dropped_valid}
 use Rattle.change_model.proofs.FoldedKeeps.{function_op}
-use Rattle.change_model.proofs.FunctionPlaces.{behind_function, all_filtered, all_places}
+use Rattle.change_model.proofs.FunctionPlaces.{all_places}
 use Rattle.change_model.proofs.PlanRunsValues.{result_at}
 use Rattle.change_model.proofs.SameFacts.{TellsTypes, same_told}
 use Rattle.change_model.proofs.Sifted.{sifted_cons, sifted_gone}
-use Rattle.change_model.proofs.SweptPlaces.{place_in_function, any_function_place}
+use Rattle.change_model.proofs.SweptPlaces.{place_in_function}
 
 pub first : (a b : Bool) → (a && b) ≡ true → a ≡ true
 first true b is = refl

@@ -1,16 +1,16 @@
 -- The machine of a list from which variables and constants are dropped follows that of the list before: it stands as far behind OpFunction, and
 -- what stays has the same values and words.
-use Rattle.std.proofs.Common.{◌≡◌, ℕ, zero, suc, ◌+◌, ◌-◌, ◌<◌, ◌≤◌, ◌==◌, ◌&&◌, ◌||◌, Bool, true, false, not, nat_le, nat_lt, if◌then◌else◌, List, [], ◌∷◌, length, take, drop, slice_index, slice_get, refl, ap, sym, ◌∙◌, subst, arith, inl, inr, Option, None, Some, is_some}
+use Rattle.std.proofs.Common.{◌≡◌, ℕ, ◌+◌, ◌-◌, ◌<◌, ◌≤◌, ◌==◌, ◌&&◌, ◌||◌, Bool, true, false, nat_le, nat_lt, if◌then◌else◌, List, [], ◌∷◌, length, drop, slice_index, slice_get, refl, ap, sym, ◌∙◌, subst, arith, inl, inr, Option, None, Some, is_some}
 use Rattle.std.specs.List.{list_any}
 use Rattle.std.specs.Option.{option_map, option_and_then}
-use Rattle.std.proofs.lemmas.Bool.{cases_lt, eqb-true, eq-eqb}
+use Rattle.std.proofs.lemmas.Bool.{eqb-true, eq-eqb}
 use Rattle.std.proofs.lemmas.Bool.Decides.{nat_tests}
 use Rattle.std.proofs.lemmas.Option.{slice_get-get_or}
 use Rattle.limits.specs.declared.TheConstants.{BACK_EDGES}
 use Rattle.spirv_model.specs.declared.module.Inst.{Inst}
 use Rattle.spirv_model.specs.declared.module.Words.{Words}
 use Rattle.spirv_model.specs.declared.op.TheConstants as op
-use Rattle.spirv_model.specs.Operands.{word_at, words_from, ids_among, ids_by, entry_of, class_of, kinds, ids}
+use Rattle.spirv_model.specs.Operands.{word_at, ids_among, ids_by, entry_of, class_of, kinds, ids}
 use Rattle.spirv_model.specs.declared.table.Operand.{Operand}
 use Rattle.spirv_model.specs.declared.table.Operand.TheVariants.{IdResultType, IdResult, IdRef}
 use Rattle.body_model.specs.Switches.{is_among}
@@ -22,8 +22,8 @@ use Rattle.stage_model.specs.Value.{Value, Truth, Word, Composite, Pointer, Outs
 use Rattle.stage_model.specs.Program.{Program, program_of, held_layout, is_label, first_label_place}
 use Rattle.stage_model.specs.Start.{Values, Memory, with_value, all_values}
 use Rattle.stage_model.specs.Effect.{Effect, Passes, Gives, Writes, Enters, Goes, Stops, paired_with, read_ids, with_words, result_of, effect_of}
-use Rattle.stage_model.specs.Machine.{State, Flow, Next, To, Stopped, Machine, Step, GoesOn, Ends, read_from, read_values, counted, after_effect, done, back_to, jump, led, at, step}
-use Rattle.typed_model.proofs.BlockParts.{another, clash}
+use Rattle.stage_model.specs.Machine.{State, Flow, Next, To, Stopped, Machine, Ends, read_from, read_values, counted, after_effect, back_to, jump, led, at, step}
+use Rattle.typed_model.proofs.BlockParts.{another}
 use Rattle.typed_model.proofs.EffectsRun.{instruction}
 use Rattle.typed_model.proofs.InstructionsRun.{Does}
 use Rattle.typed_model.proofs.ReadValues.{IsSeen as IsUsed, uses_seen}
@@ -49,13 +49,12 @@ use Rattle.change_model.proofs.PlanRunsSteady.{steady_on}
 use Rattle.typed_model.proofs.FunctionRuns.{function_within}
 use Rattle.typed_model.proofs.PlainRuns.{at_op}
 use Rattle.typed_model.proofs.ReadTypes.{Each}
-use Rattle.change_model.specs.Dropping.{entry_without, dropped, dropped_words, MayDrop}
+use Rattle.change_model.specs.Dropping.{entry_without, dropped, MayDrop}
 use Rattle.change_model.proofs.ChangedLabels.{found_at, first_at}
-use Rattle.change_model.proofs.DroppedPlaces.{dropped_left, DroppedPlace, dropped_place, dropped_to, kept_place, entry_same, entry_op, function_stays, no_entry_behind, dropped_before, function_inst, function_left, function_length}
+use Rattle.change_model.proofs.DroppedPlaces.{dropped_left, dropped_place, dropped_to, kept_place, entry_same, entry_op, function_stays, no_entry_behind, dropped_before, function_inst, function_left, function_length}
 use Rattle.change_model.proofs.FoundUses.{label_inside, chain_inside, stands_inside}
 use Rattle.change_model.proofs.LeftPlacedWhole.{labels_once}
 use Rattle.change_model.specs.PlanRules.{root_by, root_of}
-use Rattle.typed_model.proofs.UsedReads.{IsRead}
 use Rattle.typed_model.proofs.ValidModules.{valid_seen, valid_sound}
 use Rattle.change_model.proofs.PartReads.{part_uses}
 use Rattle.change_model.proofs.PhiPairsLeft.{In}

@@ -1,5 +1,5 @@
 -- The slot of a location is the same where no variable goes that is there.
-use Rattle.std.proofs.Common.{◌≡◌, ℕ, zero, suc, ◌<◌, ◌==◌, ◌&&◌, ◌||◌, Bool, true, false, cond, if◌then◌else◌, List, [], ◌∷◌, length, slice_index, refl, ap, sym, ◌∙◌, arith, Option, None, Some}
+use Rattle.std.proofs.Common.{◌≡◌, ℕ, suc, ◌<◌, ◌==◌, ◌&&◌, ◌||◌, Bool, true, false, cond, if◌then◌else◌, List, [], ◌∷◌, length, slice_index, refl, ap, sym, ◌∙◌, arith, Option, None, Some}
 use Rattle.std.specs.List.{find}
 use Rattle.std.specs.Option.{option_and_then}
 use Rattle.spirv_model.specs.declared.module.Inst.{Inst}
@@ -7,7 +7,6 @@ use Rattle.spirv_model.specs.declared.module.Words.{Words}
 use Rattle.spirv_model.specs.declared.op.TheConstants as op
 use Rattle.spirv_model.specs.declared.decoration.TheConstants.{LOCATION}
 use Rattle.spirv_model.specs.Operands.{word_at, result, entry_of}
-use Rattle.state_model.specs.declared.iface.Slot.{Slot}
 use Rattle.valid_model.specs.Definitions.{inst_at}
 use Rattle.valid_model.specs.EarlierFacts.{is_variable_of}
 use Rattle.valid_model.specs.ModuleFacts.{ModuleFacts, facts_of, is_word}

@@ -1,7 +1,7 @@
 -- No branch comes to lead always to one label where variables and constants are dropped.
-use Rattle.std.proofs.Common.{◌≡◌, ℕ, zero, suc, ◌+◌, ◌-◌, ◌<◌, ◌≤◌, ◌⊎◌, ◌==◌, ◌&&◌, ◌||◌, not, nat_lt, nat_le, if◌then◌else◌, inl, inr, Bool, true, false, List, [], ◌∷◌, length, map, refl, ap, sym, ◌∙◌, arith, Option, None, Some}
-use Rattle.std.specs.List.{list_all, list_any, range_with_len}
-use Rattle.std.proofs.lemmas.Bool.{cases_lt, eqb-true, eq-eqb}
+use Rattle.std.proofs.Common.{◌≡◌, ℕ, zero, suc, ◌+◌, ◌-◌, ◌<◌, ◌≤◌, ◌==◌, ◌&&◌, ◌||◌, not, nat_lt, nat_le, inl, inr, Bool, true, false, List, [], ◌∷◌, length, map, refl, ap, sym, ◌∙◌, arith, Option, None, Some}
+use Rattle.std.specs.List.{list_any, range_with_len}
+use Rattle.std.proofs.lemmas.Bool.{cases_lt, eqb-true}
 use Rattle.std.proofs.lemmas.Bool.Decides.{nat_tests}
 use Rattle.spirv_model.specs.declared.module.Inst.{Inst}
 use Rattle.spirv_model.specs.declared.module.Words.{Words}
@@ -11,15 +11,15 @@ use Rattle.scalar_model.specs.declared.scalar_value.Scalar.{Scalar}
 use Rattle.body_model.specs.Classes.{is_module_level}
 use Rattle.body_model.specs.Grammar.{Derives}
 use Rattle.body_model.specs.Switches.{is_among}
-use Rattle.body_model.specs.Targets.{targets_by, targets}
+use Rattle.body_model.specs.Targets.{targets}
 use Rattle.valid_model.specs.Definitions.{inst_at}
 use Rattle.check_model.specs.Intervals.{Interval, intervals_of}
 use Rattle.check_model.specs.Validity.{IsValidList}
 use Rattle.check_model.proofs.CodeIntervals.{one_intervals}
 use Rattle.typed_model.proofs.BlockParts.{another, clash}
 use Rattle.typed_model.proofs.RunningStart.{starts_with_label}
-use Rattle.unit_model.specs.ConstantScalars.{function_places, constant_scalar, is_constant_scalar, is_behind, chooses_constantly, is_merge_of_loop, chosen_target, is_to_merge_of_loop, leaves_at_once, begins_at, is_nested, is_left_to, is_left_from_within, switches_constantly, is_straightened}
-use Rattle.change_model.specs.Dropping.{is_dropped, entry_without, dropped, dropped_words, MayDrop}
+use Rattle.unit_model.specs.ConstantScalars.{constant_scalar, is_constant_scalar, is_behind, chooses_constantly, is_merge_of_loop, chosen_target, is_to_merge_of_loop, leaves_at_once, begins_at, is_nested, is_left_to, is_left_from_within, switches_constantly, is_straightened}
+use Rattle.change_model.specs.Dropping.{is_dropped, entry_without, dropped, MayDrop}
 use Rattle.change_model.proofs.DroppedDoes.{function_moved}
 use Rattle.change_model.proofs.DroppedFunction.{function_sooner, body_dropped}
 use Rattle.change_model.proofs.DroppedPlaces.{entry_same, entry_op, dropped_before}
@@ -27,7 +27,7 @@ use Rattle.change_model.proofs.DroppedReduced.{first, second, both, new, far, in
 use Rattle.change_model.proofs.DroppedUses.{stands_sooner}
 use Rattle.change_model.proofs.DroppedValid.{dropped_valid}
 use Rattle.change_model.proofs.LaterIntervals.{later}
-use Rattle.change_model.proofs.LeftLeads.{LeadsNowhere, no_targets}
+use Rattle.change_model.proofs.LeftLeads.{no_targets}
 use Rattle.change_model.proofs.MovedUp.{level_inst}
 use Rattle.change_model.proofs.SeenBehind.{intervals_sooner}
 use Rattle.change_model.proofs.Sifted.{none_sifted}

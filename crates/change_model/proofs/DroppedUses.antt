@@ -1,40 +1,38 @@
 -- What is used is visible, of the right type and rightly stored where variables and constants are dropped.
-use Rattle.std.proofs.Common.{◌≡◌, ℕ, zero, suc, ◌+◌, ◌-◌, ◌<◌, ◌≤◌, ◌==◌, ◌||◌, inl, inr, Bool, true, false, not, List, [], ◌∷◌, length, take, drop, refl, ap, sym, ◌∙◌, subst, arith, Option, None, Some}
+use Rattle.std.proofs.Common.{◌≡◌, ℕ, zero, suc, ◌+◌, ◌-◌, ◌<◌, ◌≤◌, ◌==◌, ◌||◌, inl, inr, Bool, true, false, not, List, [], ◌∷◌, length, take, drop, refl, ap, sym, ◌∙◌, subst, arith, None, Some}
 use Rattle.std.specs.List.{list_any, list_all}
 use Rattle.std.specs.Option.{option_map}
 use Rattle.std.proofs.lemmas.Bool.{cases_lt}
 use Rattle.spirv_model.specs.declared.module.Inst.{Inst}
 use Rattle.spirv_model.specs.declared.module.Words.{Words}
-use Rattle.spirv_model.specs.declared.class.Class.{Class}
 use Rattle.spirv_model.specs.declared.class.Class.TheVariants as class
 use Rattle.spirv_model.specs.declared.op.TheConstants as op
-use Rattle.spirv_model.specs.Operands.{word_at, class_of, entry_of}
+use Rattle.spirv_model.specs.Operands.{class_of, entry_of}
 use Rattle.body_model.specs.Classes.{is_module_level}
 use Rattle.body_model.specs.Grammar.{Derives}
 use Rattle.body_model.proofs.ClassFacts.{no_level_function}
 use Rattle.body_model.proofs.Forward.{forward}
 use Rattle.body_model.proofs.ModuleLevels.{within_list}
 use Rattle.valid_model.specs.Definitions.{inst_at, definition, is_earlier}
-use Rattle.check_model.specs.declared.fault.CheckFault.{CheckFault}
 use Rattle.check_model.specs.declared.fault.CheckFault.TheVariants as fault
 use Rattle.check_model.specs.EntryPoints.{is_op_function}
 use Rattle.check_model.specs.Interfaces.{not_flat, location_twice}
-use Rattle.check_model.specs.Intervals.{Interval, intervals_of}
-use Rattle.check_model.specs.OperandTypes.{operands_fit_class, operands_fit}
+use Rattle.check_model.specs.Intervals.{intervals_of}
+use Rattle.check_model.specs.OperandTypes.{operands_fit}
 use Rattle.check_model.specs.Storage.{is_in_function, is_wrong_storage}
 use Rattle.check_model.specs.Typing.{Typing, typing_of}
 use Rattle.check_model.specs.Validity.{IsValidList, has_bad_operands, has_wrong_storage, use_fault_at, use_fault, list_fault}
 use Rattle.check_model.specs.Visibility.{use_at, used_ids, is_visible_use, not_visible}
 use Rattle.typed_model.proofs.BlockParts.{another}
 use Rattle.typed_model.proofs.ValidModules.{valid_sound, valid_stored}
-use Rattle.change_model.specs.Dropping.{is_dropped, entry_without, dropped, dropped_words, MayDrop}
+use Rattle.change_model.specs.Dropping.{entry_without, dropped, MayDrop}
 use Rattle.change_model.proofs.ChangedDecorated.{any_there}
 use Rattle.change_model.proofs.ConstantsValid.{NoUseFault, no_use_fault, no_first, none_of, none_at_all, use_faultless}
 use Rattle.change_model.proofs.DroppedDefinitions.{earlier_kept}
 use Rattle.change_model.proofs.DroppedFunction.{function_sooner}
 use Rattle.change_model.proofs.DroppedMeanings.{names_stay}
 use Rattle.change_model.proofs.DroppedOperands.{dropped_alike, id_alike, staying_fits, storage_stays}
-use Rattle.change_model.proofs.DroppedPlaces.{dropped_left, dropped_before, DroppedPlace, dropped_place, dropped_to, dropped_rises, KeptPlace, kept_place, entry_same, entry_op, function_stays, no_entry_behind, same_function, function_inst, function_left, function_length}
+use Rattle.change_model.proofs.DroppedPlaces.{dropped_before, DroppedPlace, dropped_place, dropped_to, dropped_rises, kept_place, entry_same, entry_op, function_stays, no_entry_behind, same_function, function_inst, function_left, function_length}
 use Rattle.change_model.proofs.FoldedKeeps.{function_op}
 use Rattle.change_model.proofs.FunctionBehind.{HasBodyBehind}
 use Rattle.change_model.proofs.MovedUp.{level_inst}

@@ -1,31 +1,26 @@
 -- Without variables and constants that nothing names a valid module is a valid module.
-use Rattle.std.proofs.Common.{◌≡◌, ℕ, suc, ◌+◌, ◌<◌, ◌≤◌, ◌==◌, ◌&&◌, ◌||◌, Bool, true, false, not, cond, nat_le, if◌then◌else◌, List, [], ◌∷◌, length, map, refl, ap, sym, ◌∙◌, subst, arith, Option, None, Some, is_some}
+use Rattle.std.proofs.Common.{◌≡◌, ℕ, ◌+◌, ◌==◌, ◌&&◌, ◌||◌, Bool, true, false, cond, if◌then◌else◌, List, [], ◌∷◌, length, map, refl, ap, sym, ◌∙◌, arith, Option, None, Some, is_some}
 use Rattle.std.specs.Prelude.{filter}
-use Rattle.std.specs.Option.{option_map, option_or}
-use Rattle.std.specs.List.{find, list_any, range_with_len}
-use Rattle.limits.specs.declared.TheConstants.{LOCATIONS}
+use Rattle.std.specs.Option.{option_map}
 use Rattle.spirv_model.specs.declared.module.Inst.{Inst}
 use Rattle.spirv_model.specs.declared.module.Words.{Words}
 use Rattle.spirv_model.specs.declared.op.TheConstants as op
 use Rattle.spirv_model.specs.declared.execution_model.TheConstants.{VERTEX, FRAGMENT}
-use Rattle.spirv_model.specs.declared.decoration.TheConstants.{LOCATION, FLAT}
-use Rattle.spirv_model.specs.declared.storage_class.TheConstants as storage_class
 use Rattle.spirv_model.specs.declared.table.Operand.{Operand}
 use Rattle.spirv_model.specs.Operands.{word_at, kinds}
 use Rattle.body_model.specs.Grammar.{Derives}
 use Rattle.valid_model.specs.Definitions.{inst_at}
-use Rattle.valid_model.specs.EarlierFacts.{is_variable_of}
-use Rattle.valid_model.specs.ModuleFacts.{ModuleFacts, facts_of, is_entry, is_word, is_vertex, is_decorated}
+use Rattle.valid_model.specs.ModuleFacts.{is_entry, is_word}
 use Rattle.check_model.specs.declared.fault.CheckFault.{CheckFault}
 use Rattle.check_model.specs.declared.fault.CheckFault.TheVariants as fault
-use Rattle.check_model.specs.EntryPoints.{entry_points, is_op_function, function_id, is_shader_entry, is_one_entry, bad_entry_count}
-use Rattle.check_model.specs.Interfaces.{not_flat, location_twice, stage_of}
+use Rattle.check_model.specs.EntryPoints.{entry_points, function_id, is_one_entry, bad_entry_count}
+use Rattle.check_model.specs.Interfaces.{not_flat, location_twice}
 use Rattle.check_model.specs.Intervals.{intervals_of}
 use Rattle.check_model.specs.Validity.{IsValidList, use_fault, list_fault}
 use Rattle.change_model.specs.Dropping.{is_dropped, entry_without, words_left, dropped, dropped_words, MayDrop}
 use Rattle.change_model.proofs.ConstantsValid.{all_none, none_of}
-use Rattle.change_model.proofs.DroppedEntries.{EntryWords, entry_words, entry_left, function_found, function_id_stays, one_entry}
-use Rattle.change_model.proofs.DroppedFacts.{entry_stays, stage_left, facts_dropped}
+use Rattle.change_model.proofs.DroppedEntries.{entry_words, entry_left, function_found, function_id_stays, one_entry}
+use Rattle.change_model.proofs.DroppedFacts.{entry_stays, stage_left}
 use Rattle.change_model.proofs.DroppedFunction.{body_dropped}
 use Rattle.change_model.proofs.DroppedInterface.{flat_dropped, twice_dropped}
 use Rattle.change_model.proofs.DroppedPlaces.{dropped_before, entry_same, entry_op, function_inst}

@@ -1,11 +1,11 @@
 -- Constants that stay have the same values where variables and constants of the module's level are dropped.
-use Rattle.std.proofs.Common.{◌≡◌, ℕ, ◌||◌, ◌==◌, Bool, true, false, List, [], ◌∷◌, drop, slice_index, refl, ap, ◌∙◌, Option, None, Some}
+use Rattle.std.proofs.Common.{◌≡◌, ℕ, ◌||◌, ◌==◌, Bool, true, false, List, [], ◌∷◌, drop, slice_index, refl, ap, ◌∙◌, Option, Some}
 use Rattle.std.specs.Option.{option_map, option_and_then, unwrap_or}
 use Rattle.std.specs.List.{list_any}
 use Rattle.spirv_model.specs.declared.module.Inst.{Inst}
 use Rattle.spirv_model.specs.declared.op.TheConstants as op
 use Rattle.state_model.specs.declared.parts.SpecValues.{SpecValues}
-use Rattle.stage_model.specs.Value.{Value, Truth, Word, Composite, Layout, zero_of, parts_from}
+use Rattle.stage_model.specs.Value.{Value, Truth, Word, Composite, zero_of, parts_from}
 use Rattle.stage_model.specs.Program.{Program}
 use Rattle.stage_model.specs.Start.{Values, all_values, entry_word, is_nonzero, rest_of, scalar_value, specialized, constant_of}
 use Rattle.spirv_model.specs.declared.decoration.TheConstants.{SPEC_ID}

@@ -1,6 +1,6 @@
 -- A list without variables and constants that nothing names can be written, and is no longer.
-use Rattle.std.proofs.Common.{◌≡◌, ℕ, suc, ◌+◌, ◌<◌, ◌≤◌, ◌==◌, ◌&&◌, Bool, true, false, not, cond, List, [], ◌∷◌, ◌++◌, length, refl, ap, sym, ◌∙◌, subst, arith, length-append, Option, None, Some}
-use Rattle.std.specs.Prelude.{is_some, filter}
+use Rattle.std.proofs.Common.{◌≡◌, ℕ, suc, ◌+◌, ◌<◌, ◌≤◌, ◌==◌, ◌&&◌, Bool, true, false, not, cond, List, [], ◌∷◌, length, refl, ap, sym, ◌∙◌, subst, arith, length-append}
+use Rattle.std.specs.Prelude.{is_some}
 use Rattle.std.specs.List.{flat_map, list_all}
 use Rattle.spirv_model.specs.declared.module.Inst.{Inst}
 use Rattle.spirv_model.specs.declared.module.Words.{Words}
@@ -11,7 +11,7 @@ use Rattle.valid_model.specs.Definitions.{inst_at}
 use Rattle.check_model.specs.Validity.{IsValidList}
 use Rattle.typed_model.proofs.ValidModules.{valid_sound}
 use Rattle.change_model.specs.Dropping.{is_dropped, entry_without, dropped, dropped_words, MayDrop}
-use Rattle.change_model.proofs.DroppedEntries.{EntryWords, entry_words, entry_inst, stays_in, entry_left, entry_shaped, entry_function_stays}
+use Rattle.change_model.proofs.DroppedEntries.{entry_words, entry_inst, stays_in, entry_left, entry_shaped, entry_function_stays}
 use Rattle.change_model.proofs.DroppedPlaces.{entry_same}
 use Rattle.change_model.proofs.Sifted.{sifted, sifted_cons, sifted_gone}
 

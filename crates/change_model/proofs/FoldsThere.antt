@@ -1,8 +1,8 @@
 -- A scalar operation of a valid module whose operands are constant scalars has a scalar for its result.
-use Rattle.std.proofs.Common.{◌≡◌, ℕ, ◌+◌, ◌<◌, ◌≤◌, ◌==◌, ◌&&◌, inl, inr, Bool, true, false, if◌then◌else◌, List, [], ◌∷◌, length, drop, map, refl, ap, sym, ◌∙◌, subst, is_some, Option, None, Some}
+use Rattle.std.proofs.Common.{◌≡◌, ℕ, ◌+◌, ◌<◌, ◌==◌, ◌&&◌, inl, inr, Bool, true, false, if◌then◌else◌, List, [], ◌∷◌, length, map, refl, ap, sym, ◌∙◌, subst, is_some, Option, None, Some}
 use Rattle.std.specs.Option.{option_map, option_and_then}
 use Rattle.std.proofs.lemmas.Bool.{cases_lt}
-use Rattle.basics.proofs.Bools.{first_of_both, second_of_both}
+use Rattle.basics.proofs.Bools.{second_of_both}
 use Rattle.spirv_model.specs.declared.module.Inst.{Inst}
 use Rattle.spirv_model.specs.declared.module.Words.{Words}
 use Rattle.spirv_model.specs.declared.class.Class.{Class}
@@ -23,12 +23,12 @@ use Rattle.check_model.specs.OperandTypes.{operands_fit, operands_fit_class}
 use Rattle.check_model.specs.ScalarOperands.{scalar_operands_fit, select_fits, condition_fits, is_select}
 use Rattle.check_model.specs.Typing.{constant_word, constant_in, typing_of, type_id, has_type, type_of, components_in}
 use Rattle.check_model.specs.Validity.{IsValidList}
-use Rattle.stage_model.specs.Value.{Value, Truth, Word, Layout}
+use Rattle.stage_model.specs.Value.{Value, Word, Layout}
 use Rattle.stage_model.specs.Program.{Program, program_of}
 use Rattle.stage_model.specs.Start.{of_scalar, all_scalars}
 use Rattle.stage_model.specs.Operations.{operation, chosen}
 use Rattle.typed_model.specs.Results.{layout_of_components}
-use Rattle.typed_model.specs.Types.{HasTypes, typing_in, Suits, AllSuit, HasTypedResult}
+use Rattle.typed_model.specs.Types.{HasTypes, typing_in, Suits, AllSuit}
 use Rattle.typed_model.specs.Values.{IsOfType, HasLayout}
 use Rattle.typed_model.proofs.BlockParts.{clash}
 use Rattle.typed_model.proofs.ModuleTyped.{module_typed}
@@ -40,7 +40,7 @@ use Rattle.typed_model.proofs.TypedSteps.{gives_at, visible_by}
 use Rattle.typed_model.proofs.ValidFunctions.{front_of}
 use Rattle.typed_model.proofs.ValidModules.{valid_sound}
 use Rattle.typed_model.proofs.ValidTypes.{defined_within, valid_types}
-use Rattle.unit_model.specs.ConstantScalars.{constant_scalar, null_scalar, scalar_by}
+use Rattle.unit_model.specs.ConstantScalars.{constant_scalar, scalar_by}
 use Rattle.change_model.specs.Folding.{all_constants}
 use Rattle.change_model.proofs.ConstantOperands.{HoldsScalar, holds_scalar, first_values}
 

@@ -1,9 +1,9 @@
 -- Where one pass finds that all stays, nothing is left to fold.
-use Rattle.std.proofs.Common.{◌≡◌, ℕ, ◌+◌, ◌-◌, ◌<◌, ◌≤◌, ◌==◌, ◌&&◌, inl, inr, Bool, true, false, not, if◌then◌else◌, List, [], ◌∷◌, length, filter, refl, ap, sym, ◌∙◌, arith, is_some, Option, None, Some}
-use Rattle.std.specs.List.{list_all, range_with_len}
+use Rattle.std.proofs.Common.{◌≡◌, ℕ, ◌-◌, ◌<◌, ◌==◌, inl, inr, Bool, true, false, List, [], ◌∷◌, refl, ap, sym, ◌∙◌, arith, is_some, Option, None, Some}
+use Rattle.std.specs.List.{list_all}
 use Rattle.std.specs.Option.{option_and_then, option_map}
 use Rattle.std.specs.Prelude.{nat_lt}
-use Rattle.std.proofs.lemmas.Bool.{cases_lt, lt-ltb}
+use Rattle.std.proofs.lemmas.Bool.{lt-ltb}
 use Rattle.basics.proofs.Bools.{first_of_both, second_of_both}
 use Rattle.spirv_model.specs.declared.module.Inst.{Inst}
 use Rattle.spirv_model.specs.declared.class.Class.{Class}
@@ -14,15 +14,14 @@ use Rattle.spirv_model.specs.Operands.{words_from, class_of, entry_of}
 use Rattle.scalar_model.specs.declared.scalar_value.Scalar.{Scalar}
 use Rattle.scalar_model.specs.Scalars.{scalar_result}
 use Rattle.valid_model.specs.Definitions.{definition, inst_at}
-use Rattle.check_model.specs.Intervals.{intervals_of}
 use Rattle.typed_model.proofs.BlockParts.{another, clash}
 use Rattle.unit_model.specs.ConstantScalars.{constant_scalar, scalar_by, is_scalar_class, is_constant_scalar, is_foldable}
 use Rattle.change_model.specs.declared.fate.Fate.{Fate}
 use Rattle.change_model.specs.declared.fate.Fate.TheVariants as fate
 use Rattle.change_model.specs.Folding.{all_constants}
 use Rattle.change_model.specs.Plans.{Plan, is_dead}
-use Rattle.change_model.specs.PlanRules.{IsResolvedId, scalar_as}
-use Rattle.change_model.specs.Passes.{fate_found, fate_alive, known_before, scalar_before, operation_fate, folds_to}
+use Rattle.change_model.specs.PlanRules.{scalar_as}
+use Rattle.change_model.specs.Passes.{fate_found, known_before, scalar_before, operation_fate, folds_to}
 use Rattle.change_model.proofs.FoldsThere.{constant_early, folds_there, taken, left_out}
 use Rattle.change_model.proofs.FoundKnown.{all_known}
 use Rattle.change_model.proofs.FoundPlans.{Found}

@@ -1,11 +1,11 @@
 -- What one pass finds for a place rests on the fates before it, and on the names of what is defined before it.
-use Rattle.std.proofs.Common.{◌≡◌, ℕ, suc, zero, ◌+◌, ◌-◌, ◌<◌, ◌≤◌, inl, inr, Bool, true, false, not, ◌==◌, ◌&&◌, ◌||◌, nat_lt, if◌then◌else◌, List, [], ◌∷◌, length, filter, refl, ap, sym, ◌∙◌, arith, Option, None, Some}
+use Rattle.std.proofs.Common.{◌≡◌, ℕ, suc, zero, ◌+◌, ◌-◌, ◌<◌, Bool, true, false, not, ◌==◌, ◌&&◌, ◌||◌, nat_lt, if◌then◌else◌, List, [], ◌∷◌, length, filter, refl, ap, ◌∙◌, arith, Option, None, Some}
 use Rattle.std.specs.List.{list_any, range_with_len}
 use Rattle.std.proofs.lemmas.Bool.{eqb-true, ltb-true}
 use Rattle.spirv_model.specs.declared.module.Inst.{Inst}
 use Rattle.spirv_model.specs.declared.module.Words.{Words}
 use Rattle.spirv_model.specs.declared.op.TheConstants as op
-use Rattle.spirv_model.specs.Operands.{word_at, words_from, class_of}
+use Rattle.spirv_model.specs.Operands.{word_at, class_of}
 use Rattle.valid_model.specs.Definitions.{definition, inst_at}
 use Rattle.valid_model.specs.Meanings.{meaning}
 use Rattle.check_model.specs.Branches.{block_end_of}
@@ -14,10 +14,10 @@ use Rattle.check_model.specs.Validity.{IsValidList}
 use Rattle.check_model.specs.Visibility.{Incoming, incoming}
 use Rattle.unit_model.specs.ConstantScalars.{is_behind, is_scalar_class}
 use Rattle.change_model.specs.declared.fate.Fate.{Fate}
-use Rattle.change_model.specs.declared.fate.Fate.TheVariants.{Dead, Stays, Goes, Resolves, Skips, Unused, Nulls}
+use Rattle.change_model.specs.declared.fate.Fate.TheVariants.{Dead, Stays, Resolves, Unused}
 use Rattle.change_model.specs.Plans.{Plan, is_dead, leads_from, block_at, targets_left}
-use Rattle.change_model.specs.PlanRules.{still_names, stays, is_skipped, is_constant_fate, is_shape, is_zero_input, root_of, merge_labels}
-use Rattle.change_model.specs.Passes.{is_free, opens, held_at, chosen_way, switched_way, has_one_way, may_become_branch, way_behind, skips_to, goes_to, picks_one, test_fate, heads_loop, keeps_merge, keeps_phis, is_end_left, is_pair_left, pairs_found, is_there, stands_at, phi_fate_of, phi_fate, operation_fate, merge_fate, branch_fate, switch_fate, fate_alive, is_named_before, label_fate, fate_found}
+use Rattle.change_model.specs.PlanRules.{still_names, stays, is_skipped, is_constant_fate, is_shape, merge_labels}
+use Rattle.change_model.specs.Passes.{is_free, held_at, chosen_way, switched_way, has_one_way, may_become_branch, way_behind, skips_to, goes_to, picks_one, test_fate, heads_loop, keeps_merge, keeps_phis, is_end_left, is_pair_left, pairs_found, is_there, stands_at, phi_fate_of, phi_fate, merge_fate, branch_fate, switch_fate, fate_alive, label_fate, fate_found}
 use Rattle.body_model.specs.Switches.{is_among}
 use Rattle.change_model.proofs.KnownSooner.{AgreeBefore, AgreeOnResults, IsEarlier, on_results, behind_merge, operation_same, chosen_same, switched_same}
 use Rattle.change_model.proofs.SoonerUses.{condition_earlier, selector_earlier, operands_earlier, value_earlier}

@@ -1,26 +1,23 @@
 -- Where one pass finds that all stays, no branch always leads to one label.
-use Rattle.std.proofs.Common.{◌≡◌, ℕ, zero, suc, ◌+◌, ◌-◌, ◌<◌, ◌≤◌, ◌==◌, ◌&&◌, ◌||◌, inl, inr, Bool, true, false, not, nat_lt, if◌then◌else◌, List, length, take, ◌∷◌, [], refl, ap, sym, ◌∙◌, arith, is_some, subst, Option, None, Some}
+use Rattle.std.proofs.Common.{◌≡◌, ℕ, zero, suc, ◌+◌, ◌-◌, ◌<◌, ◌≤◌, ◌==◌, ◌&&◌, ◌||◌, inl, inr, Bool, true, false, not, nat_lt, if◌then◌else◌, List, length, take, ◌∷◌, [], refl, ap, sym, ◌∙◌, arith, is_some, Option, None, Some}
 use Rattle.std.specs.List.{list_all, list_any, range_with_len}
-use Rattle.std.specs.Option.{option_and_then}
 use Rattle.std.proofs.lemmas.Bool.{cases_lt, eqb-true, eq-eqb, ltb-true}
 use Rattle.basics.proofs.Bools.{first_of_both, second_of_both}
 use Rattle.spirv_model.specs.declared.module.Inst.{Inst}
 use Rattle.spirv_model.specs.declared.op.TheConstants as op
 use Rattle.spirv_model.specs.Operands.{word_at, words_from, class_of, entry_of}
 use Rattle.scalar_model.specs.declared.scalar_value.Scalar.{Scalar}
-use Rattle.scalar_model.specs.declared.scalar_value.Scalar.TheVariants.{Bool as TruthOf, Word as WordOf}
 use Rattle.body_model.specs.Grammar.{Derives}
 use Rattle.valid_model.specs.Definitions.{inst_at}
 use Rattle.check_model.specs.Intervals.{Interval, intervals_of}
 use Rattle.check_model.proofs.CodeIntervals.{one_intervals}
 use Rattle.stage_model.specs.Effect.{target_for}
 use Rattle.typed_model.proofs.BlockParts.{clash}
-use Rattle.unit_model.specs.ConstantScalars.{chosen_target, constant_scalar, chooses_constantly, is_behind, is_constant_scalar, is_foldable, is_folded, is_left_from_within, is_merge_of_loop, is_scalar_class, is_straightened, is_to_merge_of_loop, leaves_at_once, switches_constantly}
-use Rattle.change_model.specs.declared.fate.Fate.{Fate}
+use Rattle.unit_model.specs.ConstantScalars.{chosen_target, constant_scalar, chooses_constantly, is_behind, is_constant_scalar, is_foldable, is_folded, is_left_from_within, is_scalar_class, is_straightened, is_to_merge_of_loop, leaves_at_once, switches_constantly}
 use Rattle.change_model.specs.declared.fate.Fate.TheVariants as fate
 use Rattle.change_model.specs.Plans.{is_dead}
 use Rattle.change_model.specs.PlanRules.{is_nothing, is_skipped, switched_target}
-use Rattle.change_model.specs.Passes.{chosen_way, has_one_way, held_at, is_free, is_label, is_left_loop, leaving_to, may_become_branch, next_held, opens, picks_one, skips_to, switched_way, way_behind}
+use Rattle.change_model.specs.Passes.{has_one_way, held_at, is_free, is_label, is_left_loop, leaving_to, may_become_branch, next_held, opens, picks_one, skips_to, switched_way, way_behind}
 use Rattle.change_model.proofs.BehindLevel.{end_op}
 use Rattle.change_model.proofs.ConditionNames.{inside_at}
 use Rattle.change_model.proofs.ConstantChoices.{condition_truth, selector_word}
@@ -30,7 +27,6 @@ use Rattle.change_model.proofs.FoundOrigins.{alive_fate, alive_loop, alive_merge
 use Rattle.change_model.proofs.FoundReduced.{StaysAll, constant_known, none_foldable}
 use Rattle.change_model.proofs.FunctionPlaces.{all_places, any_among}
 use Rattle.change_model.proofs.LeftPlacedWhole.{outside_silent}
-use Rattle.change_model.proofs.LeftScopes.{is_label_at}
 
 skips_stays : fate.Skips ≡ fate.Stays → ⊥
 skips_stays is = cc

@@ -1,5 +1,5 @@
 -- A function behind another front is structured as it was.
-use Rattle.std.proofs.Common.{◌≡◌, ℕ, ◌+◌, ◌-◌, ◌<◌, ◌≤◌, Bool, false, List, ◌++◌, length, take, drop, drop-drop, refl, ap, sym, ◌∙◌, subst, arith, length-append, length-drop}
+use Rattle.std.proofs.Common.{◌≡◌, ℕ, ◌+◌, ◌-◌, false, List, ◌++◌, length, take, drop, drop-drop, refl, ap, sym, ◌∙◌, subst, arith, length-append, length-drop}
 use Rattle.std.specs.Prelude.{All, slice_get}
 use Rattle.std.proofs.lemmas.List.Elements.{All-same}
 use Rattle.std.proofs.lemmas.List.{drop_at}
@@ -14,7 +14,6 @@ use Rattle.body_model.proofs.CodeFits.{fits}
 use Rattle.body_model.proofs.CodeStands.{stands}
 use Rattle.body_model.proofs.Forward.{forward}
 use Rattle.body_model.proofs.Listings.{listed}
-use Rattle.body_model.proofs.ModuleLevels.{within_list}
 use Rattle.body_model.proofs.Printed.{Printed}
 use Rattle.body_model.proofs.Slices.{slice_and_rest, slice_get-drop}
 use Rattle.change_model.proofs.SettledBody.{IsLevel, code_long}

@@ -1,7 +1,7 @@
 -- The machine without an instruction whose result is known follows the one that has it.
 use Rattle.std.proofs.Common.{◌≡◌, ℕ, suc, ◌+◌, ◌<◌, ◌≤◌, ◌==◌, ◌&&◌, inl, inr, Bool, true, false, nat_le, if◌then◌else◌, List, [], ◌∷◌, length, drop, slice_index, refl, ap, sym, ◌∙◌, subst, arith, Option, None, Some}
 use Rattle.std.specs.Prelude.{slice_get}
-use Rattle.std.specs.Option.{option_map, option_and_then}
+use Rattle.std.specs.Option.{option_map}
 use Rattle.std.proofs.lemmas.Bool.{cases_lt}
 use Rattle.std.proofs.lemmas.Bool.Decides.{nat_tests}
 use Rattle.std.proofs.lemmas.Option.{slice_get_within, get_or_from_slice_get}
@@ -19,7 +19,7 @@ use Rattle.stage_model.specs.Value.{Value}
 use Rattle.stage_model.specs.Program.{Program, is_label, first_label_place, program_of}
 use Rattle.stage_model.specs.Start.{all_values}
 use Rattle.stage_model.specs.Effect.{Effect, Passes, Gives, Writes, Enters, Goes, Stops, read_ids, effect_of}
-use Rattle.stage_model.specs.Machine.{State, Flow, Next, To, Stopped, read_from, read_values, after_effect, done, Machine, Step, GoesOn, Ends, at, back_to, jump, led, step}
+use Rattle.stage_model.specs.Machine.{State, Flow, Next, To, Stopped, read_from, read_values, after_effect, Machine, GoesOn, Ends, at, back_to, jump, led, step}
 use Rattle.stage_model.specs.Steps.{stays}
 use Rattle.stage_model.specs.Leads.{machine}
 use Rattle.stage_model.proofs.Comings.{one_step}

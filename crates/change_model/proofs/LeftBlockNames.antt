@@ -11,7 +11,6 @@ use Rattle.body_model.specs.Scope.{Scope}
 use Rattle.body_model.specs.Due.{IsDue}
 use Rattle.body_model.specs.Switches.{is_among}
 use Rattle.body_model.specs.Targets.{targets_by, targets}
-use Rattle.body_model.specs.Grammar.{ends}
 use Rattle.body_model.proofs.Shapes.{IsWhole, after_of}
 use Rattle.valid_model.specs.Definitions.{inst_at}
 use Rattle.unit_model.specs.ConstantScalars.{is_behind}

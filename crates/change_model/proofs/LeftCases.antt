@@ -11,31 +11,30 @@ use Rattle.body_model.specs.declared.block_end.BlockEnd.{BlockEnd}
 use Rattle.body_model.specs.declared.block_end.BlockEnd.TheVariants as kind
 use Rattle.body_model.specs.declared.block_end.SequenceEnd.{SequenceEnd}
 use Rattle.body_model.specs.Scope.{Scope, behind_block}
-use Rattle.body_model.specs.Blocks.{begins_with, exit_to, leads_to_loop, may_have_phis, last_part, block_end}
+use Rattle.body_model.specs.Blocks.{begins_with, leads_to_loop, may_have_phis, last_part, block_end}
 use Rattle.body_model.specs.Due.{IsDue}
 use Rattle.body_model.specs.Switches.{is_among}
 use Rattle.body_model.specs.Targets.{targets}
-use Rattle.body_model.specs.Grammar.{Sequence}
 use Rattle.body_model.proofs.Forward.{forward}
 use Rattle.valid_model.specs.Definitions.{inst_at}
 use Rattle.check_model.specs.Intervals.{Interval, inside, intervals_of}
 use Rattle.check_model.specs.Validity.{IsValidList}
 use Rattle.change_model.specs.declared.fate.Fate.TheVariants as fate
 use Rattle.change_model.specs.Plans.{Plan, is_dead, leads_from}
-use Rattle.change_model.specs.PlanRules.{IsPlan, merge_labels, stays, still_names, intervals_left, is_test_of}
+use Rattle.change_model.specs.PlanRules.{IsPlan, merge_labels, stays, still_names, is_test_of}
 use Rattle.change_model.proofs.LeftAlive.{named_alive}
 use Rattle.change_model.proofs.LeftBlocks.{is_inner, has_phi}
-use Rattle.change_model.proofs.LeftEndings.{Branches, differ, kept_branch, branch_made, onward_made}
+use Rattle.change_model.proofs.LeftEndings.{differ, kept_branch, branch_made, onward_made}
 use Rattle.change_model.proofs.LeftEnds.{Way, exits, tests_true, tests_false, returns, kills, goes, selects, picks, loops, way, tests_true_so, tests_false_so}
 use Rattle.change_model.proofs.LeftFates.{outer, inners}
 use Rattle.change_model.proofs.LeftFronts.{inst_is, next_is, OldBlock, old_block}
 use Rattle.change_model.proofs.LeftGoes.{quiet_less, goes_made}
 use Rattle.change_model.proofs.LeftHeads.{fits_in}
 use Rattle.change_model.proofs.LeftLasts.{Head, last_at, last_here, last_alive}
-use Rattle.change_model.proofs.LeftScopes.{is_label_at, label_at, written, Placed, Unled, Onward, Led, Tests, tested, passed, Suits, IsFree, Apart, keeps_loop, FitsSo, Continues, Made}
+use Rattle.change_model.proofs.LeftScopes.{label_at, written, Placed, Onward, Led, Tests, tested, passed, Suits, IsFree, Apart, keeps_loop, Continues, Made}
 use Rattle.change_model.proofs.LeftStops.{return_made, kill_made}
 use Rattle.change_model.proofs.LeftTargets.{Stands}
-use Rattle.change_model.proofs.LeftWays.{Leaves, IsLast, IsPast, GoesTo, LastWay, by_exit, by_return, by_kill, by_true, by_false, last_way, NextWay, next_way}
+use Rattle.change_model.proofs.LeftWays.{IsLast, IsPast, LastWay, by_exit, by_return, by_kill, by_true, by_false, last_way, NextWay, next_way}
 use Rattle.change_model.proofs.LeftTests.{choice_targets, choice_stays, is_test, passed_branch, test_kept}
 
 -- the first block may have the phis that it keeps

@@ -1,5 +1,5 @@
 -- The code that is made of a sequence that stays one of its own: nothing stands behind it, and its interval is left.
-use Rattle.std.proofs.Common.{◌≡◌, ℕ, ◌+◌, ◌-◌, ◌≤◌, inl, inr, true, List, [], ◌∷◌, ◌++◌, length, map, refl, ap, sym, ◌∙◌, subst, Option, None, Some}
+use Rattle.std.proofs.Common.{◌≡◌, ℕ, ◌+◌, ◌≤◌, inl, inr, true, List, [], ◌∷◌, ◌++◌, length, map, refl, ap, sym, ◌∙◌, subst, Option, None, Some}
 use Rattle.spirv_model.specs.declared.module.Inst.{Inst}
 use Rattle.body_model.specs.Scope.{Scope}
 use Rattle.body_model.specs.Code.{Code, printed}

@@ -1,5 +1,5 @@
 -- Code that goes on to other code: what fits with a wanted label fits without one, and begins with it.
-use Rattle.std.proofs.Common.{◌≡◌, ℕ, Bool, true, false, List, [], ◌∷◌, ◌++◌, Option, None, Some, refl, ap, ◌∙◌}
+use Rattle.std.proofs.Common.{◌≡◌, ℕ, true, List, [], ◌∷◌, ◌++◌, Option, None, Some}
 use Rattle.spirv_model.specs.declared.module.Inst.{Inst}
 use Rattle.body_model.specs.Scope.{Scope}
 use Rattle.body_model.specs.Blocks.{begins_with}

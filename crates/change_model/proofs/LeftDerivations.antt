@@ -1,8 +1,7 @@
 -- The list that a plan makes derives, where the code that is made of the function's sequence fits.
-use Rattle.std.proofs.Common.{◌≡◌, ℕ, zero, suc, ◌+◌, ◌-◌, ◌<◌, ◌≤◌, ◌⊎◌, inl, inr, Bool, true, false, ◌==◌, nat_lt, if◌then◌else◌, List, [], ◌∷◌, ◌++◌, length, take, drop, map, append_assoc, length-append, refl, ap, sym, ◌∙◌, subst, arith, Option, None, Some}
+use Rattle.std.proofs.Common.{◌≡◌, ℕ, suc, ◌+◌, ◌-◌, ◌<◌, ◌≤◌, ◌⊎◌, inl, inr, Bool, true, false, nat_lt, if◌then◌else◌, List, [], ◌∷◌, ◌++◌, length, take, drop, map, append_assoc, length-append, refl, ap, sym, ◌∙◌, subst, arith, Option, None, Some}
 use Rattle.std.specs.Prelude.{All, slice_get}
 use Rattle.std.specs.List.{flat_map, range_with_len}
-use Rattle.std.proofs.lemmas.Bool.{cases_lt, eqb-true}
 use Rattle.std.proofs.lemmas.Bool.Decides.{nat_tests}
 use Rattle.std.proofs.lemmas.List.{drop_at, take_at, length-take-le}
 use Rattle.std.proofs.lemmas.List.Elements.{All-append, All-same}
@@ -13,7 +12,7 @@ use Rattle.spirv_model.specs.declared.op.TheConstants as op
 use Rattle.body_model.specs.Scope.{main}
 use Rattle.body_model.specs.Switches.{repeat}
 use Rattle.body_model.specs.Grammar.{IsOp, Begins, Derives}
-use Rattle.body_model.specs.Code.{Code, printed, code_of}
+use Rattle.body_model.specs.Code.{Code, printed}
 use Rattle.body_model.specs.Fitting.{Fits, labels}
 use Rattle.body_model.proofs.CodeStands.{IsSequence, stands}
 use Rattle.body_model.proofs.Forward.{forward}

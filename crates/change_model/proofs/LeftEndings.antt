@@ -1,5 +1,5 @@
 -- The code that is made of a sequence's last block.
-use Rattle.std.proofs.Common.{◌≡◌, ◌≢◌, ℕ, ◌+◌, ◌<◌, ◌≤◌, ◌⊎◌, inl, inr, Bool, true, false, ◌==◌, ◌||◌, ◌&&◌, List, [], ◌∷◌, ◌++◌, length, map, slice_index, refl, ap, sym, ◌∙◌, subst, arith, Option, None, Some}
+use Rattle.std.proofs.Common.{◌≡◌, ◌≢◌, ℕ, ◌+◌, ◌<◌, ◌≤◌, ◌⊎◌, inl, inr, Bool, true, false, ◌==◌, ◌||◌, List, [], ◌∷◌, ◌++◌, length, map, slice_index, refl, ap, sym, ◌∙◌, subst, arith, Option, None, Some}
 use Rattle.std.proofs.lemmas.Bool.{cases_lt, eqb-true, eq-eqb}
 use Rattle.spirv_model.specs.declared.module.Inst.{Inst}
 use Rattle.spirv_model.specs.declared.module.Words.{Words}
@@ -10,7 +10,7 @@ use Rattle.body_model.specs.declared.block_end.BlockEnd.{BlockEnd}
 use Rattle.body_model.specs.declared.block_end.BlockEnd.TheVariants as way
 use Rattle.body_model.specs.Classes.{is_terminator}
 use Rattle.body_model.specs.Scope.{Scope, behind_block}
-use Rattle.body_model.specs.Blocks.{begins_with, exit_to, block_from}
+use Rattle.body_model.specs.Blocks.{exit_to}
 use Rattle.body_model.specs.Switches.{is_among}
 use Rattle.body_model.specs.Targets.{targets_by, targets}
 use Rattle.body_model.specs.Code.{Code, Ends, GoesOn, printed}
@@ -20,22 +20,20 @@ use Rattle.valid_model.specs.Definitions.{inst_at}
 use Rattle.check_model.specs.Intervals.{Interval, intervals_of}
 use Rattle.check_model.specs.Validity.{IsValidList}
 use Rattle.check_model.proofs.CodeIntervals.{inside_code, past}
-use Rattle.change_model.specs.Folding.{function_at}
-use Rattle.change_model.specs.declared.fate.Fate.TheVariants as fate
-use Rattle.change_model.specs.Plans.{Plan, is_dead, leads_from, kept_at, written_at}
+use Rattle.change_model.specs.Plans.{Plan, leads_from, kept_at}
 use Rattle.change_model.specs.PlanRules.{IsPlan, intervals_left, stays}
 use Rattle.change_model.proofs.ChangedPlaces.{place_left}
 use Rattle.change_model.proofs.LeftBlocks.{is_inner}
 use Rattle.change_model.proofs.LeftCode.{fits_any, fits_begins}
 use Rattle.change_model.proofs.LeftEnds.{exits_so, goes_so}
-use Rattle.change_model.proofs.LeftExits.{IsExit, suits_exit, ExitBy, exit_by}
+use Rattle.change_model.proofs.LeftExits.{IsExit, suits_exit, exit_by}
 use Rattle.change_model.proofs.LeftFates.{inners, IsFixed, fixed_branch, written_stays, kept_op}
 use Rattle.change_model.proofs.LeftHeads.{stays_in}
 use Rattle.change_model.proofs.LeftIntervals.{moved}
 use Rattle.change_model.proofs.LeftLasts.{Head, clash, and_no, nothing_behind, none_left, last_here, last_alive, ends_by, long_by, front_unled, begins_alone}
 use Rattle.change_model.proofs.LeftLeads.{branch_leads}
 use Rattle.change_model.proofs.LeftNames.{kept_word}
-use Rattle.change_model.proofs.LeftScopes.{is_label_at, label_at, written, Onward, Unled, Suits, IsFree, FitsSo, Continues, printed_behind, inside_behind, code_behind, keeps_loop, Made}
+use Rattle.change_model.proofs.LeftScopes.{label_at, written, Onward, Unled, Suits, IsFree, Continues, printed_behind, inside_behind, keeps_loop, Made}
 use Rattle.change_model.proofs.LeftTargets.{target_named}
 use Rattle.change_model.proofs.LeftWritten.{written_one, written_places}
 use Rattle.change_model.proofs.MovedUp.{function_is}

@@ -12,7 +12,7 @@ use Rattle.body_model.specs.declared.fault.TreeFault.{TreeFault}
 use Rattle.body_model.specs.Classes.{is_terminator}
 use Rattle.body_model.specs.Scope.{Scope}
 use Rattle.body_model.specs.Switches.{is_among, repeat, literals_of}
-use Rattle.body_model.specs.Blocks.{begins_with, exit_to, branch_end, branch, test_end, invocation_end, terminator_end, unmerged, selection_end, loop_branch, loop_end, last_part}
+use Rattle.body_model.specs.Blocks.{begins_with, exit_to, branch_end, branch, test_end, invocation_end, terminator_end, unmerged, selection_end, loop_branch, last_part}
 use Rattle.body_model.proofs.Shapes.{IsWhole}
 
 -- what the last part is of a block that ends so

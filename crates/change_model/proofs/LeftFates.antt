@@ -1,18 +1,18 @@
 -- What may become of an instruction, by its opcode, and what is written for it.
-use Rattle.std.proofs.Common.{◌≡◌, ℕ, ◌⊎◌, inl, inr, Bool, true, false, ◌==◌, ◌||◌, if◌then◌else◌, List, [], ◌∷◌, ◌++◌, refl, ap, sym, ◌∙◌, Option, None, Some}
+use Rattle.std.proofs.Common.{◌≡◌, ℕ, ◌⊎◌, inl, inr, Bool, true, false, ◌==◌, ◌||◌, if◌then◌else◌, List, [], ◌∷◌, refl, ap, ◌∙◌, Option, None, Some}
 use Rattle.std.proofs.lemmas.Bool.{eqb-true, eq-eqb}
 use Rattle.spirv_model.specs.declared.module.Inst.{Inst}
 use Rattle.spirv_model.specs.declared.class.Class.{Class}
 use Rattle.spirv_model.specs.declared.class.Class.TheVariants as class
 use Rattle.spirv_model.specs.declared.op.TheConstants as op
-use Rattle.spirv_model.specs.Operands.{entry_of, class_of, kinds, word_at}
+use Rattle.spirv_model.specs.Operands.{entry_of, class_of, word_at}
 use Rattle.body_model.specs.Classes.{is_plain_class, is_plain}
 use Rattle.valid_model.specs.Definitions.{inst_at}
 use Rattle.check_model.specs.Intervals.{Interval}
 use Rattle.unit_model.specs.ConstantScalars.{is_scalar_class, chosen_target}
 use Rattle.change_model.specs.declared.fate.Fate.{Fate}
 use Rattle.change_model.specs.declared.fate.Fate.TheVariants as fate
-use Rattle.change_model.specs.Plans.{Plan, is_dead, renamed_by, kept_at, branch_to, switch_to, written_as, written_at}
+use Rattle.change_model.specs.Plans.{Plan, is_dead, kept_at, branch_to, written_as, written_at}
 use Rattle.change_model.specs.PlanRules.{FateFits, MayBeUnused, result_of, store, MaySkip, selection, loop, only_target, scalar_left, switched_target}
 use Rattle.change_model.proofs.LeftBlocks.{is_inner}
 

@@ -1,23 +1,23 @@
 -- The instructions of a block before its last part, and what is written for them.
-use Rattle.std.proofs.Common.{◌≡◌, ℕ, zero, suc, ◌+◌, ◌<◌, ◌≤◌, ◌⊎◌, inl, inr, Bool, true, false, ◌==◌, ◌||◌, List, [], ◌∷◌, ◌++◌, length, drop, slice_index, append_assoc, refl, ap, sym, ◌∙◌, subst, arith, Option, None, Some}
+use Rattle.std.proofs.Common.{◌≡◌, ℕ, ◌+◌, ◌<◌, ◌≤◌, ◌⊎◌, inl, inr, true, false, ◌==◌, List, [], ◌∷◌, ◌++◌, length, drop, slice_index, refl, ap, sym, ◌∙◌, subst, arith, Option}
 use Rattle.std.proofs.lemmas.Bool.{cases_lt}
 use Rattle.std.proofs.lemmas.Option.{get_or_from_slice_get}
 use Rattle.spirv_model.specs.declared.module.Inst.{Inst}
 use Rattle.spirv_model.specs.declared.op.TheConstants as op
 use Rattle.body_model.specs.declared.block_end.BlockEnd.{BlockEnd}
 use Rattle.body_model.specs.Scope.{Scope}
-use Rattle.body_model.specs.Blocks.{begins_with, leads_to_loop, may_have_phis, last_part, rest_of_block, block_from, block_end}
+use Rattle.body_model.specs.Blocks.{leads_to_loop, may_have_phis, last_part, rest_of_block, block_from, block_end}
 use Rattle.body_model.specs.Due.{only, IsDue}
 use Rattle.body_model.proofs.Dues.{stands_at}
 use Rattle.body_model.proofs.Fronts.{front}
 use Rattle.body_model.proofs.Shapes.{IsWhole}
 use Rattle.valid_model.specs.Definitions.{inst_at, no_instruction}
 use Rattle.check_model.specs.Intervals.{Interval}
-use Rattle.change_model.specs.Plans.{Plan, written_at}
+use Rattle.change_model.specs.Plans.{Plan}
 use Rattle.change_model.specs.PlanRules.{FateFits}
-use Rattle.change_model.proofs.LeftBlocks.{is_inner, AreInner, has_phi, Thinned, none, out, kept, thinned, thinned_leads, Cut, cut}
-use Rattle.change_model.proofs.LeftFates.{OneAtMost, inner_written}
-use Rattle.change_model.proofs.LeftScopes.{is_label_at, label_at, written}
+use Rattle.change_model.proofs.LeftBlocks.{is_inner, AreInner, Thinned, none, out, kept, cut}
+use Rattle.change_model.proofs.LeftFates.{inner_written}
+use Rattle.change_model.proofs.LeftScopes.{written}
 use Rattle.change_model.proofs.LeftWritten.{written_none, written_more}
 
 -- ---- places

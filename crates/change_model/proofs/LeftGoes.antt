@@ -1,11 +1,11 @@
 -- The code that is made of a sequence whose first block goes on to the next one, as it did or by a branch that is left.
-use Rattle.std.proofs.Common.{◌≡◌, ◌≢◌, ℕ, ◌+◌, ◌<◌, ◌≤◌, ◌⊎◌, inl, inr, Bool, true, false, ◌==◌, ◌||◌, ◌&&◌, List, [], ◌∷◌, ◌++◌, length, map, append_assoc, refl, ap, sym, ◌∙◌, subst, arith, Option, None, Some}
-use Rattle.std.proofs.lemmas.Bool.{cases_lt, eqb-true}
+use Rattle.std.proofs.Common.{◌≡◌, ℕ, ◌<◌, ◌≤◌, ◌⊎◌, inl, inr, true, false, List, ◌++◌, length, map, append_assoc, ap, sym, ◌∙◌, subst, arith, Option, Some}
+use Rattle.std.proofs.lemmas.Bool.{cases_lt}
 use Rattle.spirv_model.specs.declared.module.Inst.{Inst}
 use Rattle.spirv_model.specs.declared.module.Words.{Words}
 use Rattle.body_model.specs.declared.block_end.BlockEnd.{BlockEnd}
 use Rattle.body_model.specs.Scope.{Scope, behind_block}
-use Rattle.body_model.specs.Code.{Code, GoesOn, printed}
+use Rattle.body_model.specs.Code.{GoesOn}
 use Rattle.body_model.specs.Fitting.{Fits}
 use Rattle.check_model.specs.Intervals.{Interval, intervals_of}
 use Rattle.check_model.specs.Validity.{IsValidList}
@@ -17,7 +17,7 @@ use Rattle.change_model.proofs.LeftEndings.{Branches, only_there, goes_fits, new
 use Rattle.change_model.proofs.LeftIntervals.{moved}
 use Rattle.change_model.proofs.LeftLasts.{Head}
 use Rattle.change_model.proofs.LeftLeads.{dead_nowhere}
-use Rattle.change_model.proofs.LeftScopes.{is_label_at, label_at, written, StandsNot, Quiet, Onward, Unled, Elsewhere, IsFree, FitsSo, printed_behind, inside_behind, code_behind, Made}
+use Rattle.change_model.proofs.LeftScopes.{is_label_at, label_at, written, StandsNot, Quiet, Onward, Unled, Elsewhere, IsFree, printed_behind, inside_behind, code_behind, Made}
 use Rattle.change_model.proofs.LeftWritten.{written_split, written_dead, written_places}
 use Rattle.change_model.proofs.MovedUp.{function_is}
 

@@ -1,5 +1,5 @@
 -- The head of a selection, an OpSwitch or a loop whose merge instruction goes: OpBranch is written for its last part.
-use Rattle.std.proofs.Common.{◌≡◌, ◌≢◌, ℕ, suc, ◌+◌, ◌<◌, ◌≤◌, ◌⊎◌, inl, inr, Bool, true, false, ◌==◌, ◌||◌, ◌&&◌, List, [], ◌∷◌, ◌++◌, slice_index, drop, refl, ap, sym, ◌∙◌, subst, arith, Option, None, Some}
+use Rattle.std.proofs.Common.{◌≡◌, ℕ, suc, ◌+◌, ◌<◌, ◌≤◌, ◌⊎◌, inl, inr, Bool, true, false, ◌==◌, ◌||◌, ◌&&◌, List, [], ◌∷◌, ◌++◌, slice_index, refl, ap, sym, ◌∙◌, subst, arith}
 use Rattle.std.proofs.lemmas.Bool.{cases_lt, eq-eqb}
 use Rattle.spirv_model.specs.declared.module.Inst.{Inst}
 use Rattle.spirv_model.specs.declared.module.Words.{Words}
@@ -18,7 +18,7 @@ use Rattle.change_model.specs.declared.fate.Fate.{Fate}
 use Rattle.change_model.specs.declared.fate.Fate.TheVariants as fate
 use Rattle.change_model.specs.Plans.{Plan, is_dead, branch_to, targets_left, leads_from, kept_at, written_at}
 use Rattle.change_model.specs.PlanRules.{IsPlan, stays}
-use Rattle.change_model.proofs.LeftEndings.{Branches, branch_targets, among_itself, at_one, differ}
+use Rattle.change_model.proofs.LeftEndings.{Branches, branch_targets, among_itself, differ}
 use Rattle.change_model.proofs.LeftFates.{IsFixed, fixed_branch, written_stays, written_goes, written_skips, kept_op}
 use Rattle.change_model.proofs.LeftFronts.{inst_is, next_is}
 use Rattle.change_model.proofs.LeftHeads.{fits_in, stays_in}

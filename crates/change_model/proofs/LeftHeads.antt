@@ -1,19 +1,18 @@
 -- A block that isn't dead, as it is written: it begins with its label, and ends by its last part.
-use Rattle.std.proofs.Common.{◌≡◌, ℕ, zero, suc, ◌+◌, ◌-◌, ◌<◌, ◌≤◌, ◌⊎◌, inl, inr, Bool, true, false, ◌==◌, ◌||◌, ◌&&◌, List, [], ◌∷◌, ◌++◌, length, drop, slice_index, refl, ap, sym, ◌∙◌, subst, arith, Option, None, Some}
-use Rattle.std.proofs.lemmas.Bool.{cases_lt, eqb-true, eq-eqb, and_from}
+use Rattle.std.proofs.Common.{◌≡◌, ℕ, zero, suc, ◌+◌, ◌-◌, ◌<◌, ◌≤◌, Bool, true, false, ◌==◌, List, ◌∷◌, ◌++◌, length, drop, slice_index, refl, ap, sym, ◌∙◌, subst, arith}
+use Rattle.std.proofs.lemmas.Bool.{eqb-true, eq-eqb, and_from}
 use Rattle.spirv_model.specs.declared.module.Inst.{Inst}
 use Rattle.spirv_model.specs.declared.module.Words.{Words}
 use Rattle.spirv_model.specs.declared.op.TheConstants as op
-use Rattle.spirv_model.specs.Operands.{word_at}
 use Rattle.body_model.specs.declared.block_end.BlockEnd.{BlockEnd}
 use Rattle.body_model.specs.Scope.{Scope}
-use Rattle.body_model.specs.Blocks.{begins_with, leads_to_loop, may_have_phis, last_part, rest_of_block, block_from}
+use Rattle.body_model.specs.Blocks.{begins_with, leads_to_loop, may_have_phis, last_part, block_from}
 use Rattle.valid_model.specs.Definitions.{inst_at}
 use Rattle.check_model.specs.Intervals.{intervals_of}
 use Rattle.check_model.specs.Validity.{IsValidList}
 use Rattle.typed_model.proofs.FunctionRuns.{function_within}
 use Rattle.change_model.specs.declared.fate.Fate.TheVariants as fate
-use Rattle.change_model.specs.Plans.{Plan, is_dead, kept_at, written_at}
+use Rattle.change_model.specs.Plans.{Plan, is_dead, kept_at}
 use Rattle.change_model.specs.PlanRules.{FateFits, IsPlan}
 use Rattle.change_model.proofs.LeftBlocks.{is_inner, has_phi, thinned, thinned_leads}
 use Rattle.change_model.proofs.LeftFates.{inners, outer, fixed_label, IsFixed, fixed_stays, written_stays, kept_op}

@@ -1,10 +1,10 @@
 -- The code that is made of a sequence which becomes part of another one, and of what stands behind it.
-use Rattle.std.proofs.Common.{◌≡◌, ◌≢◌, ℕ, ◌+◌, ◌<◌, ◌≤◌, inl, inr, Bool, true, false, ◌==◌, if◌then◌else◌, List, [], ◌∷◌, ◌++◌, length, map, append_assoc, refl, ap, sym, ◌∙◌, subst, arith, Option, None, Some}
-use Rattle.std.proofs.lemmas.Bool.{eqb-true, eq-eqb}
+use Rattle.std.proofs.Common.{◌≡◌, ℕ, ◌<◌, ◌≤◌, Bool, true, ◌==◌, if◌then◌else◌, List, [], ◌∷◌, ◌++◌, length, map, append_assoc, refl, ap, sym, ◌∙◌, arith, Option, Some}
+use Rattle.std.proofs.lemmas.Bool.{eq-eqb}
 use Rattle.std.proofs.lemmas.List.{map-append}
 use Rattle.spirv_model.specs.declared.module.Inst.{Inst}
 use Rattle.body_model.specs.Scope.{Scope}
-use Rattle.body_model.specs.Code.{Code, printed}
+use Rattle.body_model.specs.Code.{Code}
 use Rattle.check_model.specs.Intervals.{Interval}
 use Rattle.check_model.proofs.CodeIntervals.{inside_code}
 use Rattle.change_model.specs.Folding.{function_at}

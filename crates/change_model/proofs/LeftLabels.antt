@@ -1,5 +1,5 @@
 -- No label stands twice in the list that a plan makes.
-use Rattle.std.proofs.Common.{◌≡◌, ℕ, zero, suc, ◌+◌, ◌<◌, ◌≤◌, ◌⊎◌, inl, inr, Bool, true, false, ◌==◌, List, [], ◌∷◌, length, slice_index, refl, ap, sym, ◌∙◌, subst, arith, Option, None, Some}
+use Rattle.std.proofs.Common.{◌≡◌, ℕ, zero, suc, ◌<◌, inl, inr, Bool, true, false, ◌==◌, List, [], ◌∷◌, length, slice_index, refl, ap, sym, ◌∙◌, subst, arith, Option, None, Some}
 use Rattle.std.specs.Prelude.{All, slice_get}
 use Rattle.std.proofs.lemmas.Bool.{cases_lt, eqb-true}
 use Rattle.std.proofs.lemmas.List.Elements.{All-head}
@@ -18,8 +18,7 @@ use Rattle.check_model.specs.Intervals.{intervals_of}
 use Rattle.check_model.specs.Validity.{IsValidList}
 use Rattle.change_model.specs.declared.fate.Fate.{Fate}
 use Rattle.change_model.specs.declared.fate.Fate.TheVariants as fate
-use Rattle.change_model.specs.Folding.{function_at}
-use Rattle.change_model.specs.Plans.{Plan, constant_at, kept_at, branch_to, switch_to, written_as, written_at, changed}
+use Rattle.change_model.specs.Plans.{Plan, kept_at, branch_to, switch_to, written_as, written_at, changed}
 use Rattle.change_model.specs.PlanRules.{IsPlan}
 use Rattle.change_model.proofs.ChangedPlaces.{place_left, level_there, StoodAt, of_level, of_constant, of_function, stood_at}
 use Rattle.change_model.proofs.LeftLevels.{IsLevel, level_at}

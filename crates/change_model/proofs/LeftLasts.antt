@@ -1,40 +1,25 @@
 -- The last block of a sequence where it ends by OpBranch or ends the invocation.
-use Rattle.std.proofs.Common.{◌≡◌, ◌≢◌, ℕ, zero, suc, ◌+◌, ◌-◌, ◌<◌, ◌≤◌, ◌⊎◌, inl, inr, Bool, true, false, ◌==◌, ◌||◌, ◌&&◌, List, [], ◌∷◌, ◌++◌, length, drop, map, slice_index, append_assoc, length-append, refl, ap, sym, ◌∙◌, subst, arith, Option, None, Some}
-use Rattle.std.proofs.lemmas.Bool.{cases_lt, eqb-true, eq-eqb}
+use Rattle.std.proofs.Common.{◌≡◌, ℕ, ◌+◌, ◌<◌, ◌≤◌, ◌⊎◌, inl, inr, Bool, true, false, ◌==◌, ◌&&◌, List, [], ◌∷◌, ◌++◌, length, drop, append_assoc, length-append, refl, ap, sym, ◌∙◌, arith}
+use Rattle.std.proofs.lemmas.Bool.{cases_lt}
 use Rattle.std.proofs.lemmas.List.{drop_at, drop-drop}
 use Rattle.spirv_model.specs.declared.module.Inst.{Inst}
 use Rattle.spirv_model.specs.declared.module.Words.{Words}
 use Rattle.spirv_model.specs.declared.op.TheConstants as op
-use Rattle.spirv_model.specs.Operands.{word_at}
-use Rattle.body_model.specs.declared.scope.End.{End}
 use Rattle.body_model.specs.declared.block_end.BlockEnd.{BlockEnd}
-use Rattle.body_model.specs.declared.block_end.BlockEnd.TheVariants as way
-use Rattle.body_model.specs.Scope.{Scope, behind_block}
-use Rattle.body_model.specs.Blocks.{begins_with, exit_to, leads_to_loop, may_have_phis, last_part, block_from}
-use Rattle.body_model.specs.Switches.{is_among}
-use Rattle.body_model.specs.Code.{Code, Ends, GoesOn, printed}
-use Rattle.body_model.specs.Fitting.{Fits, ends, goes_on}
+use Rattle.body_model.specs.Scope.{Scope}
+use Rattle.body_model.specs.Blocks.{begins_with, leads_to_loop, may_have_phis, last_part, block_from}
 use Rattle.valid_model.specs.Definitions.{inst_at}
-use Rattle.check_model.specs.Intervals.{Interval, intervals_of}
+use Rattle.check_model.specs.Intervals.{intervals_of}
 use Rattle.check_model.specs.Validity.{IsValidList}
-use Rattle.check_model.proofs.CodeIntervals.{inside_code, past}
-use Rattle.change_model.specs.Folding.{function_at}
-use Rattle.change_model.specs.declared.fate.Fate.TheVariants as fate
-use Rattle.change_model.specs.Plans.{Plan, is_dead, leads_from, kept_at, written_at}
+use Rattle.check_model.proofs.CodeIntervals.{past}
+use Rattle.change_model.specs.Plans.{Plan, is_dead}
 use Rattle.change_model.specs.PlanRules.{IsPlan, intervals_left}
-use Rattle.change_model.proofs.ChangedPlaces.{place_left}
 use Rattle.change_model.proofs.LeftBlocks.{is_inner, has_phi}
-use Rattle.change_model.proofs.LeftCode.{fits_any, fits_begins}
-use Rattle.change_model.proofs.LeftEnds.{exits_so, goes_so}
-use Rattle.change_model.proofs.LeftExits.{IsExit, suits_exit, ExitBy}
-use Rattle.change_model.proofs.LeftFates.{inners, IsFixed, fixed_branch, written_stays, kept_op}
 use Rattle.change_model.proofs.LeftFronts.{inst_is, OldBlock, inner_at}
-use Rattle.change_model.proofs.LeftHeads.{same_life, fits_in, stays_in, label_here, is_label_here, rest_here, plain_front, front_written, begins_written, head_made}
-use Rattle.change_model.proofs.LeftIntervals.{moved}
-use Rattle.change_model.proofs.LeftLeads.{LeadsNowhere, label_nowhere, inner_nowhere, nowhere, branch_leads}
-use Rattle.change_model.proofs.LeftNames.{kept_word}
-use Rattle.change_model.proofs.LeftScopes.{is_label_at, label_at, written, Onward, Unled, Suits, IsFree, FitsSo, Continues, printed_behind, inside_behind, code_behind, keeps_loop, Made, StandsNot, Quiet}
-use Rattle.change_model.proofs.LeftWritten.{written_split, written_one, written_places}
+use Rattle.change_model.proofs.LeftHeads.{same_life, fits_in, is_label_here, rest_here, plain_front, begins_written, head_made}
+use Rattle.change_model.proofs.LeftLeads.{LeadsNowhere, label_nowhere, inner_nowhere, nowhere}
+use Rattle.change_model.proofs.LeftScopes.{is_label_at, label_at, written, Unled, keeps_loop}
+use Rattle.change_model.proofs.LeftWritten.{written_split}
 
 pub clash : {Q : Type 0} (b : Bool) → b ≡ true → b ≡ false → Q
 clash true is isnt = cc

@@ -33,7 +33,7 @@ use Rattle.change_model.proofs.LeftLoopParts.{LoopAt}
 use Rattle.change_model.proofs.LeftPhis.{keeps_nowhere}
 use Rattle.change_model.proofs.LeftPlacedWhole.{labels_once}
 use Rattle.change_model.proofs.LeftRemains.{left_both, left_less, none_left_of}
-use Rattle.change_model.proofs.LeftScopes.{is_label_at, label_at, names, StandsNot, Unled, Onward, Tests, passed, Suits, Apart, Continues, Made}
+use Rattle.change_model.proofs.LeftScopes.{is_label_at, label_at, StandsNot, Unled, Onward, Tests, passed, Suits, Apart, Continues, Made}
 
 or_none : (a b : Bool) → a ≡ false → b ≡ false → (a || b) ≡ false
 or_none a b first second = rw first second

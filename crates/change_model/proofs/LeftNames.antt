@@ -1,5 +1,5 @@
 -- Labels keep their names, and an instruction that stays keeps the words that have no other name.
-use Rattle.std.proofs.Common.{◌≡◌, ℕ, zero, suc, ◌+◌, ◌<◌, ◌≤◌, ◌⊎◌, inl, inr, Bool, true, false, ◌==◌, if◌then◌else◌, List, [], ◌∷◌, length, slice_index, refl, ap, sym, ◌∙◌, subst, arith, Option, None, Some}
+use Rattle.std.proofs.Common.{◌≡◌, ℕ, zero, suc, ◌<◌, inl, inr, Bool, true, false, ◌==◌, if◌then◌else◌, List, [], ◌∷◌, length, slice_index, refl, ap, sym, ◌∙◌, subst, Option, None, Some}
 use Rattle.std.proofs.lemmas.Bool.{cases_lt, eqb-true}
 use Rattle.spirv_model.specs.declared.module.Inst.{Inst}
 use Rattle.spirv_model.specs.declared.module.Words.{Words}
@@ -8,7 +8,7 @@ use Rattle.spirv_model.specs.declared.table.Operand.TheVariants.{IdRef}
 use Rattle.spirv_model.specs.declared.op.TheConstants as op
 use Rattle.spirv_model.specs.Operands.{word_at, entry_of, result, kinds}
 use Rattle.valid_model.specs.Definitions.{inst_at, definition}
-use Rattle.check_model.specs.Intervals.{Interval, intervals_of}
+use Rattle.check_model.specs.Intervals.{intervals_of}
 use Rattle.check_model.specs.Validity.{IsValidList}
 use Rattle.typed_model.proofs.FunctionRuns.{function_within}
 use Rattle.typed_model.proofs.ModuleValues.{defined_at}
@@ -16,7 +16,7 @@ use Rattle.typed_model.proofs.ValidTypes.{keeps_rules}
 use Rattle.change_model.specs.declared.fate.Fate.{Fate}
 use Rattle.change_model.specs.declared.fate.Fate.TheVariants as fate
 use Rattle.change_model.specs.Plans.{Plan, renamed_words, renamed_by, phi_left, predecessors_left, block_at, kept_at}
-use Rattle.change_model.specs.PlanRules.{FateFits, IsResolved, IsResolvedId, IsPlan}
+use Rattle.change_model.specs.PlanRules.{FateFits, IsResolved, IsPlan}
 use Rattle.change_model.proofs.LeftScopes.{is_label_at, label_at}
 
 -- ---- results

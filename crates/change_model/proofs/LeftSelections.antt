@@ -1,5 +1,5 @@
 -- A merge instruction of a selection in a block: it is the block's last part.
-use Rattle.std.proofs.Common.{◌≡◌, ℕ, ◌+◌, ◌-◌, ◌<◌, ◌≤◌, ◌⊎◌, inl, inr, Bool, true, false, ◌==◌, ◌||◌, if◌then◌else◌, List, [], ◌∷◌, slice_index, refl, ap, sym, ◌∙◌, arith}
+use Rattle.std.proofs.Common.{◌≡◌, ℕ, ◌+◌, ◌<◌, ◌≤◌, ◌⊎◌, inl, inr, Bool, true, false, ◌==◌, ◌||◌, if◌then◌else◌, List, [], ◌∷◌, slice_index, refl, ap, sym, ◌∙◌, arith}
 use Rattle.std.proofs.lemmas.Bool.{cases_lt, eqb-true, eq-eqb}
 use Rattle.spirv_model.specs.declared.module.Inst.{Inst}
 use Rattle.spirv_model.specs.declared.op.TheConstants as op
@@ -9,7 +9,6 @@ use Rattle.body_model.specs.declared.block_end.BlockEnd.TheVariants as way
 use Rattle.body_model.specs.Scope.{Scope}
 use Rattle.body_model.specs.Switches.{is_among}
 use Rattle.body_model.specs.Targets.{targets}
-use Rattle.body_model.specs.Grammar.{ends}
 use Rattle.body_model.proofs.Shapes.{IsWhole, after_of}
 use Rattle.valid_model.specs.Definitions.{inst_at}
 use Rattle.unit_model.specs.ConstantScalars.{is_behind}

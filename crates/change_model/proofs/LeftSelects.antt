@@ -1,5 +1,5 @@
 -- The code that is made of a sequence whose first block ends in a selection that stays.
-use Rattle.std.proofs.Common.{◌≡◌, ◌≢◌, ℕ, ◌+◌, ◌<◌, ◌≤◌, inl, inr, not, nat_le, Bool, true, false, ◌==◌, ◌||◌, ◌&&◌, List, [], ◌∷◌, ◌++◌, length, map, slice_index, append_assoc, refl, ap, sym, ◌∙◌, subst, arith, Option, None, Some}
+use Rattle.std.proofs.Common.{◌≡◌, ℕ, ◌+◌, ◌<◌, ◌≤◌, not, nat_le, true, false, ◌==◌, ◌&&◌, List, [], ◌∷◌, ◌++◌, length, map, slice_index, append_assoc, ap, sym, ◌∙◌, subst, arith, Option, Some}
 use Rattle.std.proofs.lemmas.List.{map-append}
 use Rattle.limits.specs.declared.TheConstants.{NESTING}
 use Rattle.spirv_model.specs.declared.module.Inst.{Inst}
@@ -21,7 +21,7 @@ use Rattle.check_model.specs.Validity.{IsValidList}
 use Rattle.check_model.proofs.CodeIntervals.{inside_code, inside_arm, past}
 use Rattle.change_model.specs.Folding.{function_at}
 use Rattle.change_model.specs.declared.fate.Fate.TheVariants as fate
-use Rattle.change_model.specs.Plans.{Plan, kept_at, written_at}
+use Rattle.change_model.specs.Plans.{Plan, kept_at}
 use Rattle.change_model.specs.PlanRules.{IsPlan, intervals_left, stays}
 use Rattle.change_model.proofs.ChangedPlaces.{place_left}
 use Rattle.change_model.proofs.LeftBlocks.{is_inner}
@@ -31,7 +31,7 @@ use Rattle.change_model.proofs.LeftFronts.{inst_is, next_is}
 use Rattle.change_model.proofs.LeftIntervals.{moved}
 use Rattle.change_model.proofs.LeftLasts.{Head, and_no, last_at, last_here, ends_by, long_by, begins_alone}
 use Rattle.change_model.proofs.LeftNames.{kept_word}
-use Rattle.change_model.proofs.LeftScopes.{label_at, written, StandsNot, Quiet, Onward, Unled, Elsewhere, printed_behind, inside_behind, code_behind, keeps_loop, Made}
+use Rattle.change_model.proofs.LeftScopes.{label_at, written, StandsNot, Quiet, Onward, Unled, Elsewhere, printed_behind, inside_behind, code_behind, Made}
 use Rattle.change_model.proofs.LeftTargets.{target_named}
 use Rattle.change_model.proofs.LeftTests.{choice_targets}
 use Rattle.change_model.proofs.LeftCases.{among_first, among_second}

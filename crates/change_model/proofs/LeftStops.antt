@@ -1,5 +1,5 @@
 -- The code that is made of a sequence's last block, where it ends the invocation.
-use Rattle.std.proofs.Common.{◌≡◌, ◌≢◌, ℕ, ◌+◌, ◌<◌, ◌≤◌, inl, inr, Bool, true, false, ◌==◌, ◌||◌, ◌&&◌, List, [], ◌∷◌, ◌++◌, length, map, refl, ap, sym, ◌∙◌, subst, arith, Option, None, Some}
+use Rattle.std.proofs.Common.{◌≡◌, ℕ, ◌+◌, ◌≤◌, inl, Bool, true, false, ◌==◌, ◌||◌, List, [], ◌∷◌, ◌++◌, length, map, refl, ap, sym, ◌∙◌, subst, arith, Option, None}
 use Rattle.std.proofs.lemmas.Bool.{eqb-true}
 use Rattle.spirv_model.specs.declared.module.Inst.{Inst}
 use Rattle.spirv_model.specs.declared.module.Words.{Words}
@@ -10,14 +10,13 @@ use Rattle.body_model.specs.declared.block_end.BlockEnd.{BlockEnd}
 use Rattle.body_model.specs.declared.block_end.BlockEnd.TheVariants as way
 use Rattle.body_model.specs.Scope.{Scope}
 use Rattle.body_model.specs.Blocks.{last_part}
-use Rattle.body_model.specs.Code.{Code, Ends, printed}
-use Rattle.body_model.specs.Fitting.{Fits, ends}
+use Rattle.body_model.specs.Code.{Ends}
+use Rattle.body_model.specs.Fitting.{ends}
 use Rattle.valid_model.specs.Definitions.{inst_at}
 use Rattle.check_model.specs.Intervals.{Interval, intervals_of}
 use Rattle.check_model.specs.Validity.{IsValidList}
 use Rattle.change_model.specs.Plans.{Plan, kept_at}
-use Rattle.change_model.specs.PlanRules.{IsPlan, intervals_left, stays}
-use Rattle.change_model.proofs.ChangedPlaces.{place_left}
+use Rattle.change_model.specs.PlanRules.{IsPlan, stays}
 use Rattle.change_model.proofs.LeftBlocks.{is_inner}
 use Rattle.change_model.proofs.LeftEndings.{block_unled, at_one}
 use Rattle.change_model.proofs.LeftEnds.{returns_so, kills_so}
@@ -26,7 +25,7 @@ use Rattle.change_model.proofs.LeftHeads.{fits_in, stays_in}
 use Rattle.change_model.proofs.LeftIntervals.{moved}
 use Rattle.change_model.proofs.LeftLasts.{Head, and_no, nothing_behind, none_left, last_here, last_alive, ends_by, long_by, front_unled, begins_alone}
 use Rattle.change_model.proofs.LeftLeads.{LeadsNowhere, nowhere}
-use Rattle.change_model.proofs.LeftScopes.{is_label_at, label_at, written, Onward, Suits, printed_behind, inside_behind, keeps_loop, Made}
+use Rattle.change_model.proofs.LeftScopes.{label_at, written, Onward, keeps_loop, Made}
 use Rattle.change_model.proofs.LeftWritten.{written_one}
 
 -- an opcode that ends the invocation

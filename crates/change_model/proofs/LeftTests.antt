@@ -1,12 +1,11 @@
 -- The code that is made of the last block of a condition sequence: it stays, or the loop is left there at once.
-use Rattle.std.proofs.Common.{◌≡◌, ◌≢◌, ℕ, ◌+◌, ◌-◌, ◌<◌, ◌≤◌, ◌⊎◌, inl, inr, Bool, true, false, not, nat_lt, ◌==◌, ◌||◌, ◌&&◌, List, [], ◌∷◌, ◌++◌, length, map, slice_index, refl, ap, sym, ◌∙◌, subst, arith, Option, None, Some}
+use Rattle.std.proofs.Common.{◌≡◌, ℕ, ◌+◌, ◌-◌, ◌<◌, ◌≤◌, ◌⊎◌, inl, inr, Bool, true, false, not, nat_lt, ◌==◌, ◌||◌, ◌&&◌, List, [], ◌∷◌, ◌++◌, length, map, slice_index, refl, ap, sym, ◌∙◌, arith, Option, None, Some}
 use Rattle.std.proofs.lemmas.Bool.{cases_lt, eqb-true, eq-eqb}
 use Rattle.spirv_model.specs.declared.module.Inst.{Inst}
 use Rattle.spirv_model.specs.declared.module.Words.{Words}
 use Rattle.spirv_model.specs.declared.op.TheConstants as op
 use Rattle.spirv_model.specs.Operands.{word_at}
 use Rattle.body_model.specs.declared.scope.End.{End}
-use Rattle.body_model.specs.declared.scope.End.TheVariants.{Test}
 use Rattle.body_model.specs.declared.block_end.BlockEnd.{BlockEnd}
 use Rattle.body_model.specs.declared.block_end.BlockEnd.TheVariants as way
 use Rattle.body_model.specs.Classes.{is_terminator}
@@ -14,8 +13,8 @@ use Rattle.body_model.specs.Scope.{Scope}
 use Rattle.body_model.specs.Blocks.{last_part}
 use Rattle.body_model.specs.Switches.{is_among}
 use Rattle.body_model.specs.Targets.{targets_by, targets}
-use Rattle.body_model.specs.Code.{Code, Ends, printed}
-use Rattle.body_model.specs.Fitting.{Fits, ends}
+use Rattle.body_model.specs.Code.{Ends}
+use Rattle.body_model.specs.Fitting.{ends}
 use Rattle.body_model.proofs.ClassFacts.{ends_branch_conditional}
 use Rattle.valid_model.specs.Definitions.{inst_at}
 use Rattle.check_model.specs.Intervals.{Interval, intervals_of}
@@ -23,20 +22,17 @@ use Rattle.check_model.specs.Validity.{IsValidList}
 use Rattle.unit_model.specs.ConstantScalars.{is_behind}
 use Rattle.change_model.specs.declared.fate.Fate.{Fate}
 use Rattle.change_model.specs.declared.fate.Fate.TheVariants as fate
-use Rattle.change_model.specs.Plans.{Plan, is_dead, branch_to, targets_left, leads_from, kept_at, written_at}
-use Rattle.change_model.specs.PlanRules.{IsPlan, intervals_left, stays, goes, is_test_of}
-use Rattle.change_model.proofs.ChangedPlaces.{place_left}
+use Rattle.change_model.specs.Plans.{Plan, is_dead, branch_to, targets_left, leads_from, kept_at}
+use Rattle.change_model.specs.PlanRules.{IsPlan, stays, goes, is_test_of}
 use Rattle.change_model.proofs.LeftBlocks.{is_inner}
-use Rattle.change_model.proofs.LeftEndings.{Branches, block_unled, at_one, differ, onward_made}
-use Rattle.change_model.proofs.LeftEnds.{tests_true_so, tests_false_so}
-use Rattle.change_model.proofs.LeftFates.{inners, Outer, goes_away, picks, skips, outer, written_stays, written_goes, kept_op}
-use Rattle.change_model.proofs.LeftFates as fates
+use Rattle.change_model.proofs.LeftEndings.{Branches, block_unled, at_one, differ}
+use Rattle.change_model.proofs.LeftFates.{inners, Outer, picks, skips, written_stays, written_goes, kept_op}
 use Rattle.change_model.proofs.LeftFronts.{inner_at}
-use Rattle.change_model.proofs.LeftHeads.{fits_in, is_label_here, rest_here}
+use Rattle.change_model.proofs.LeftHeads.{is_label_here, rest_here}
 use Rattle.change_model.proofs.LeftIntervals.{moved}
 use Rattle.change_model.proofs.LeftLasts.{Head, clash, and_no, nothing_behind, none_left, last_here, last_alive, ends_by, long_by, front_unled, begins_alone}
 use Rattle.change_model.proofs.LeftNames.{kept_word}
-use Rattle.change_model.proofs.LeftScopes.{is_label_at, label_at, written, Onward, Continues, Tests, tested, passed, printed_behind, inside_behind, keeps_loop, Made}
+use Rattle.change_model.proofs.LeftScopes.{label_at, written, Onward, keeps_loop, Made}
 use Rattle.change_model.proofs.LeftTargets.{target_named}
 use Rattle.change_model.proofs.LeftWritten.{written_one}
 

@@ -1,5 +1,5 @@
 -- How a block ends its sequence, or goes on to the next one, by its last instruction.
-use Rattle.std.proofs.Common.{◌≡◌, ℕ, ◌+◌, Bool, true, false, ◌==◌, ◌||◌, nat_le, List, ◌∷◌, slice_index, refl, Option, None, Some}
+use Rattle.std.proofs.Common.{◌≡◌, ℕ, ◌+◌, true, false, ◌==◌, ◌||◌, nat_le, List, ◌∷◌, slice_index, refl, Option, Some}
 use Rattle.limits.specs.declared.TheConstants.{NESTING}
 use Rattle.spirv_model.specs.declared.module.Inst.{Inst}
 use Rattle.spirv_model.specs.declared.op.TheConstants as op

@@ -1,6 +1,6 @@
 -- The list that a plan makes, by the code that is made of the function's sequence: it derives, and what is visible by the intervals that
 -- are left is visible in it.
-use Rattle.std.proofs.Common.{◌≡◌, ℕ, ◌+◌, ◌-◌, ◌<◌, ◌≤◌, inl, inr, ◌==◌, ◌&&◌, ◌||◌, not, nat_lt, Bool, true, false, List, [], ◌∷◌, refl, ap, sym, ◌∙◌, arith, Option, None}
+use Rattle.std.proofs.Common.{◌≡◌, ℕ, ◌+◌, ◌-◌, ◌≤◌, inl, ◌==◌, ◌&&◌, ◌||◌, not, nat_lt, Bool, true, false, List, [], ◌∷◌, refl, ap, ◌∙◌, arith, None}
 use Rattle.std.specs.List.{list_any, range_with_len}
 use Rattle.spirv_model.specs.declared.module.Inst.{Inst}
 use Rattle.spirv_model.specs.declared.module.Words.{Words}
@@ -10,15 +10,13 @@ use Rattle.valid_model.specs.Definitions.{inst_at}
 use Rattle.check_model.specs.Intervals.{Interval, interval, inside, intervals_of, is_visible}
 use Rattle.check_model.specs.Validity.{IsValidList}
 use Rattle.unit_model.specs.ConstantScalars.{is_behind}
-use Rattle.change_model.specs.declared.fate.Fate.{Fate}
-use Rattle.change_model.specs.declared.fate.Fate.TheVariants as fate
 use Rattle.change_model.specs.Folding.{function_at}
 use Rattle.change_model.specs.Plans.{Plan, is_dead, written_at}
 use Rattle.change_model.specs.PlanRules.{IsPlan, goes_to_begin, is_arm_of, is_skipped, is_condition_left, is_joined, remains, intervals_left}
 use Rattle.change_model.proofs.ChangedPlaces.{place_left}
 use Rattle.change_model.proofs.LeftAlive.{none_any}
 use Rattle.change_model.proofs.LeftDerivations.{LeftDerivation, nowhere, derived}
-use Rattle.change_model.proofs.LeftIntervals.{moved, visible_moved}
+use Rattle.change_model.proofs.LeftIntervals.{visible_moved}
 use Rattle.change_model.proofs.LeftLabels.{differ_left}
 use Rattle.change_model.proofs.LeftScopes.{Made}
 

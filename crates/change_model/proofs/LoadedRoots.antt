@@ -1,18 +1,15 @@
 -- A variable that a load's pointer is made from is loaded from, by the roots of all pointers.
-use Rattle.std.proofs.Common.{◌≡◌, ℕ, zero, suc, ◌+◌, ◌<◌, ◌≤◌, ◌==◌, ◌&&◌, if◌then◌else◌, Bool, true, false, List, length, take, take_all, ◌-◌, refl, ap, sym, ◌∙◌, arith, Option, None, Some}
+use Rattle.std.proofs.Common.{◌≡◌, ℕ, zero, suc, ◌+◌, ◌<◌, ◌≤◌, ◌==◌, ◌&&◌, Bool, true, false, List, length, take, take_all, ◌-◌, refl, ap, sym, ◌∙◌, arith, Option, None, Some}
 use Rattle.std.specs.List.{fold}
 use Rattle.std.proofs.lemmas.Bool.{eqb-true, eq-eqb}
 use Rattle.std.proofs.lemmas.List.Sums.{fold_more}
 use Rattle.spirv_model.specs.declared.module.Inst.{Inst}
 use Rattle.spirv_model.specs.declared.module.Words.{Words}
 use Rattle.spirv_model.specs.declared.op.TheConstants as op
-use Rattle.spirv_model.specs.Operands.{word_at, entry_of, class_of, result}
+use Rattle.spirv_model.specs.Operands.{word_at, result}
 use Rattle.valid_model.specs.Definitions.{definition, inst_at, no_instruction}
 use Rattle.check_model.specs.Storage.{is_in_function}
 use Rattle.check_model.specs.Validity.{IsValidList}
-use Rattle.stage_model.specs.Effect.{has_result_class}
-use Rattle.typed_model.proofs.BlockParts.{clash}
-use Rattle.typed_model.proofs.ResultIds.{typed_result_id}
 use Rattle.typed_model.proofs.ValidTypes.{defined_within}
 use Rattle.unit_model.specs.UsedInterface.{Roots, with_root, roots_after, roots_of, is_root, is_loaded}
 use Rattle.change_model.specs.PlanRules.{root_of}

@@ -14,7 +14,6 @@ use Rattle.stage_model.specs.Effect.{Effect, effect_of}
 use Rattle.stage_model.specs.Machine.{State, Flow, Next, To, Stopped, read_from, read_values, after_effect, done, Machine, Step, GoesOn, Ends, at, jump, led, step}
 use Rattle.typed_model.specs.Running.{IsRunning}
 use Rattle.typed_model.proofs.LabelsBefore.{stands_there}
-use Rattle.typed_model.proofs.InstructionsRun.{Does}
 use Rattle.typed_model.proofs.RunningDoes.{here_does}
 use Rattle.typed_model.proofs.RunningGoes.{running_goes}
 use Rattle.typed_model.proofs.RunningSteps.{same_insts}

@@ -1,15 +1,13 @@
 -- What holds of all that an instruction of a function uses holds of what it reads, phis aside.
-use Rattle.std.proofs.Common.{◌≡◌, ℕ, ◌+◌, ◌<◌, ◌≤◌, ◌==◌, ◌||◌, Bool, true, false, if◌then◌else◌, List, [], ◌∷◌, length, refl, ap, sym, ◌∙◌, subst, arith, Option, Some, is_some}
+use Rattle.std.proofs.Common.{◌≡◌, ℕ, ◌+◌, ◌<◌, ◌≤◌, ◌==◌, ◌||◌, Bool, true, false, List, [], length, refl, sym, subst, Some, is_some}
 use Rattle.spirv_model.specs.declared.module.Inst.{Inst}
 use Rattle.spirv_model.specs.declared.module.Words.{Words}
 use Rattle.spirv_model.specs.declared.op.TheConstants as op
-use Rattle.spirv_model.specs.declared.class.Class.{Class}
 use Rattle.spirv_model.specs.declared.class.Class.TheVariants as class
-use Rattle.spirv_model.specs.Operands.{word_at, entry_of, class_of, kinds}
-use Rattle.body_model.specs.Classes.{is_terminator_class, is_terminator}
+use Rattle.spirv_model.specs.Operands.{entry_of, class_of, kinds}
 use Rattle.valid_model.specs.Definitions.{inst_at}
 use Rattle.check_model.specs.OperandTypes.{terminator_operands_fit}
-use Rattle.check_model.specs.Typing.{Typing, type_of}
+use Rattle.check_model.specs.Typing.{Typing}
 use Rattle.check_model.specs.Validity.{IsValidList}
 use Rattle.check_model.specs.Visibility.{used_ids}
 use Rattle.stage_model.specs.Effect.{read_ids}

@@ -1,5 +1,5 @@
 -- Where the functions begin both machines stand beside one another.
-use Rattle.std.proofs.Common.{◌≡◌, ℕ, ◌+◌, ◌<◌, ◌≤◌, ◌==◌, if◌then◌else◌, inl, inr, Bool, true, false, List, [], ◌∷◌, length, take, slice_index, refl, ap, sym, ◌∙◌, subst, arith, Option, None, Some, is_some}
+use Rattle.std.proofs.Common.{◌≡◌, ℕ, ◌+◌, ◌<◌, ◌==◌, if◌then◌else◌, Bool, true, false, List, [], ◌∷◌, take, slice_index, refl, ap, sym, ◌∙◌, subst, arith, Option, None, Some}
 use Rattle.std.specs.Option.{option_map, option_and_then}
 use Rattle.std.proofs.lemmas.List.{get_or-take, length-take-le}
 use Rattle.spirv_model.specs.declared.module.Inst.{Inst}
@@ -10,15 +10,13 @@ use Rattle.scalar_model.specs.declared.scalar_value.Scalar.{Scalar}
 use Rattle.scalar_model.specs.declared.scalar_value.Scalar.TheVariants.{Bool as TruthOf, Word as WordOf}
 use Rattle.body_model.specs.Classes.{is_module_level}
 use Rattle.valid_model.specs.Definitions.{gives, definition, inst_at, no_instruction}
-use Rattle.valid_model.specs.Meanings.{meaning}
 use Rattle.check_model.specs.Intervals.{intervals_of}
-use Rattle.check_model.specs.Typing.{type_id}
 use Rattle.check_model.specs.Validity.{IsValidList}
 use Rattle.state_model.specs.declared.parts.SpecValues.{SpecValues}
-use Rattle.stage_model.specs.Value.{Value, Truth, Word, Composite, Pointer, Outside, Layout, OneTruth, OneWord, Several, value_of, zero_of, parts_from}
+use Rattle.stage_model.specs.Value.{Value, Composite, Layout, OneTruth, OneWord, Several, value_of, zero_of, parts_from}
 use Rattle.stage_model.specs.Program.{Program, program_of}
 use Rattle.stage_model.specs.Start.{Values, all_values, of_scalar, scalar_value, rest_of, constant_of, defined_by}
-use Rattle.typed_model.proofs.BlockParts.{clash, another}
+use Rattle.typed_model.proofs.BlockParts.{another}
 use Rattle.typed_model.proofs.ModuleValues.{defined_next, with_none}
 use Rattle.typed_model.proofs.ResultIds.{defined_id}
 use Rattle.typed_model.proofs.TypedSteps.{seen}

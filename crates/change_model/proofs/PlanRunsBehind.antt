@@ -1,22 +1,19 @@
 -- Behind an instruction of a block that is no label and no terminator both machines stand beside one another again.
-use Rattle.std.proofs.Common.{◌≡◌, ℕ, suc, ◌+◌, ◌<◌, ◌≤◌, ◌==◌, ◌⊎◌, inl, inr, Bool, true, false, List, take, refl, ap, sym, ◌∙◌, subst, arith, Option, Some}
-use Rattle.std.specs.Prelude.{slice_get}
+use Rattle.std.proofs.Common.{◌≡◌, ℕ, suc, ◌+◌, ◌<◌, ◌≤◌, ◌==◌, inl, inr, true, false, List, refl, ap, sym, ◌∙◌, arith, Some}
 use Rattle.std.proofs.lemmas.Bool.{cases_lt}
 use Rattle.std.proofs.lemmas.Bool.Decides.{nat_tests}
 use Rattle.spirv_model.specs.declared.module.Inst.{Inst}
 use Rattle.spirv_model.specs.declared.module.Words.{Words}
 use Rattle.spirv_model.specs.declared.op.TheConstants as op
-use Rattle.spirv_model.specs.Operands.{word_at}
 use Rattle.body_model.specs.Classes.{is_terminator}
 use Rattle.body_model.specs.Grammar.{Derives}
 use Rattle.valid_model.specs.Definitions.{definition, inst_at}
-use Rattle.check_model.specs.Branches.{label_behind}
 use Rattle.check_model.specs.Intervals.{Interval, intervals_of, is_visible}
 use Rattle.check_model.specs.Validity.{IsValidList}
 use Rattle.stage_model.specs.Program.{Program, program_of}
 use Rattle.stage_model.specs.Start.{Values, Memory}
-use Rattle.stage_model.specs.Machine.{State, Machine, GoesOn, step}
-use Rattle.stage_model.specs.Steps.{Steps, stays}
+use Rattle.stage_model.specs.Machine.{Machine, GoesOn, step}
+use Rattle.stage_model.specs.Steps.{stays}
 use Rattle.stage_model.specs.Leads.{machine}
 use Rattle.stage_model.proofs.Comings.{one_step}
 use Rattle.typed_model.specs.Running.{IsInFirst}
@@ -29,7 +26,7 @@ use Rattle.change_model.specs.Following.{AgreeOn, HoldSame, Round, returns}
 use Rattle.change_model.specs.Plans.{Plan, is_dead, block_at}
 use Rattle.change_model.specs.PlanRules.{IsPlan}
 use Rattle.change_model.proofs.ChangedPlaces.{place_left}
-use Rattle.change_model.proofs.PlanRuns.{LeftBy, IsSeen, ComesBy, EnteredBoth, AreFixed, IsSteady, IsHeld, AreBeside}
+use Rattle.change_model.proofs.PlanRuns.{LeftBy, IsSeen, EnteredBoth, AreFixed, IsSteady, IsHeld, AreBeside}
 
 -- what stands behind an instruction that is no terminator
 pub record Behind (insts : List Inst) (d : Derives insts) (place : ℕ) : Type 0 where

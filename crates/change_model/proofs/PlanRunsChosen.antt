@@ -1,5 +1,5 @@
 -- Branches that always lead to one block.
-use Rattle.std.proofs.Common.{◌≡◌, ℕ, suc, ◌+◌, ◌<◌, ◌≤◌, ◌==◌, ◌||◌, Bool, true, false, if◌then◌else◌, List, [], ◌∷◌, drop, slice_index, refl, ap, sym, ◌∙◌, subst, arith, Option, None, Some}
+use Rattle.std.proofs.Common.{◌≡◌, ℕ, ◌<◌, ◌==◌, ◌||◌, Bool, true, false, if◌then◌else◌, List, [], ◌∷◌, drop, slice_index, refl, ap, ◌∙◌, subst, arith, Option, None, Some}
 use Rattle.std.specs.Option.{option_map, option_and_then}
 use Rattle.std.proofs.lemmas.Bool.Decides.{nat_tests}
 use Rattle.spirv_model.specs.declared.module.Inst.{Inst}
@@ -14,7 +14,7 @@ use Rattle.body_model.specs.Classes.{is_terminator_class, is_terminator}
 use Rattle.body_model.proofs.ClassFacts.{ends_branch_conditional, ends_switch}
 use Rattle.body_model.specs.Switches.{is_among}
 use Rattle.body_model.specs.Targets.{targets}
-use Rattle.valid_model.specs.Definitions.{definition, inst_at}
+use Rattle.valid_model.specs.Definitions.{inst_at}
 use Rattle.valid_model.specs.Knowledge.{is_bool, is_integer}
 use Rattle.check_model.specs.Intervals.{intervals_of}
 use Rattle.check_model.specs.OperandTypes.{terminator_operands_fit}
@@ -24,7 +24,7 @@ use Rattle.stage_model.specs.Value.{Value, Truth, Word}
 use Rattle.stage_model.specs.Program.{Program, program_of}
 use Rattle.stage_model.specs.Start.{Values, Memory, all_values}
 use Rattle.stage_model.specs.Effect.{Effect, Goes as GoesTo, read_ids, effect_of, target_for}
-use Rattle.stage_model.specs.Machine.{State, counted, Flow, To, Machine, Step, after_effect, read_from, read_values, done, led, step}
+use Rattle.stage_model.specs.Machine.{State, counted, To, Machine, after_effect, read_from, read_values, done, led, step}
 use Rattle.stage_model.proofs.Flows.{Suits, effect_suits}
 use Rattle.typed_model.proofs.BlockParts.{another}
 use Rattle.typed_model.proofs.EffectsRun.{instruction}
@@ -40,8 +40,8 @@ use Rattle.unit_model.specs.ConstantScalars.{chosen_target}
 use Rattle.change_model.specs.declared.fate.Fate.{Fate}
 use Rattle.change_model.specs.declared.fate.Fate.TheVariants.{Goes, Picks}
 use Rattle.change_model.specs.Following.{Round}
-use Rattle.change_model.specs.Plans.{Plan, targets_left, leads_from, branch_to, switch_to}
-use Rattle.change_model.specs.PlanRules.{scalar_left, switched_target, only_target, MayGo, MayPick}
+use Rattle.change_model.specs.Plans.{Plan, targets_left, branch_to, switch_to}
+use Rattle.change_model.specs.PlanRules.{scalar_left, switched_target, only_target, MayPick}
 use Rattle.change_model.proofs.MachineSteps.{step_is, running_step}
 use Rattle.change_model.proofs.PlanRuns.{LeftBy, IsSetting, AreBeside}
 use Rattle.change_model.proofs.PlanRunsConstants.{constant_operand}

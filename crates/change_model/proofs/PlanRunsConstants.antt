@@ -1,5 +1,5 @@
 -- Operations and loads whose result is known, and operands that are constant scalars.
-use Rattle.std.proofs.Common.{◌≡◌, ℕ, suc, ◌+◌, ◌<◌, ◌≤◌, ◌==◌, ◌||◌, inl, inr, Bool, true, false, nat_le, List, [], ◌∷◌, length, drop, map, refl, ap, sym, ◌∙◌, subst, arith, Option, None, Some}
+use Rattle.std.proofs.Common.{◌≡◌, ℕ, ◌≤◌, ◌||◌, inl, Bool, true, false, nat_le, List, [], ◌∷◌, map, refl, ap, sym, ◌∙◌, subst, arith, Option, None, Some}
 use Rattle.std.specs.Option.{option_map, option_and_then}
 use Rattle.std.proofs.lemmas.Bool.Decides.{nat_tests}
 use Rattle.spirv_model.specs.declared.module.Inst.{Inst}
@@ -8,20 +8,19 @@ use Rattle.spirv_model.specs.declared.op.TheConstants as op
 use Rattle.spirv_model.specs.declared.class.Class.{Class}
 use Rattle.spirv_model.specs.declared.class.Class.TheVariants as class
 use Rattle.spirv_model.specs.declared.class.ScalarClass.{ScalarClass}
-use Rattle.spirv_model.specs.Operands.{word_at, words_from, class_of, result}
+use Rattle.spirv_model.specs.Operands.{word_at, words_from, class_of}
 use Rattle.scalar_model.specs.declared.scalar_value.Scalar.{Scalar}
 use Rattle.scalar_model.specs.Scalars.{scalar_result}
-use Rattle.body_model.specs.Classes.{is_plain_class, is_plain, is_terminator}
+use Rattle.body_model.specs.Classes.{is_plain_class, is_plain}
 use Rattle.body_model.proofs.ClassFacts.{plain_is_straight}
 use Rattle.valid_model.specs.Definitions.{definition, inst_at}
 use Rattle.check_model.specs.Validity.{IsValidList}
 use Rattle.stage_model.specs.Value.{Value}
 use Rattle.stage_model.specs.Program.{Program, program_of}
-use Rattle.stage_model.specs.Start.{Values, Memory, all_values, of_scalar}
+use Rattle.stage_model.specs.Start.{Values, all_values, of_scalar}
 use Rattle.stage_model.specs.Operations.{operation}
 use Rattle.stage_model.specs.Effect.{Effect, Gives, read_ids, effect_of}
 use Rattle.stage_model.specs.Machine.{Machine, read_from}
-use Rattle.typed_model.proofs.BlockParts.{another}
 use Rattle.typed_model.proofs.FunctionRuns.{function_within}
 use Rattle.typed_model.proofs.PlainRuns.{scalar_reads}
 use Rattle.typed_model.proofs.ReadTypes.{Each}
@@ -36,9 +35,9 @@ use Rattle.change_model.specs.Plans.{Plan}
 use Rattle.change_model.specs.PlanRules.{scalar_left, is_constant_fate, MayFold}
 use Rattle.change_model.proofs.FoldedConstants.{operation_on}
 use Rattle.change_model.proofs.FoldedRuns.{is_scalar, is_scalar_class as is_scalar_class_of, differs, others, result_class, operation_effect, operation_reads}
-use Rattle.change_model.proofs.PlanRuns.{LeftBy, is_unused_fate, is_unused_at, is_fixed_at, IsSetting, IsLevelId, AreBeside}
+use Rattle.change_model.proofs.PlanRuns.{LeftBy, is_unused_fate, is_unused_at, IsSetting, IsLevelId, AreBeside}
 use Rattle.change_model.proofs.PlanRunsNames.{written_by, own_name}
-use Rattle.change_model.proofs.PlanRunsPassed.{Alone, passed_given}
+use Rattle.change_model.proofs.PlanRunsPassed.{passed_given}
 use Rattle.change_model.proofs.PlanRunsReads.{IsReadAt, plain_reads, read_seen}
 use Rattle.change_model.proofs.PlanRunsValues.{own_defined}
 

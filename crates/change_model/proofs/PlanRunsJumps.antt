@@ -1,5 +1,5 @@
 -- Where both sides branch to a block that is left, they stand beside one another at its label again, or are both lost.
-use Rattle.std.proofs.Common.{◌≡◌, ℕ, suc, ◌+◌, ◌<◌, ◌≤◌, ◌==◌, ◌||◌, ◌⊎◌, inl, inr, Bool, true, false, nat_le, if◌then◌else◌, List, [], ◌∷◌, length, take, refl, ap, sym, ◌∙◌, subst, arith, Option, None, Some}
+use Rattle.std.proofs.Common.{◌≡◌, ℕ, ◌+◌, ◌<◌, ◌≤◌, ◌==◌, ◌||◌, inl, inr, Bool, true, false, nat_le, if◌then◌else◌, List, [], ◌∷◌, refl, ap, sym, ◌∙◌, arith, Some}
 use Rattle.std.specs.Prelude.{slice_get}
 use Rattle.std.specs.Option.{option_map}
 use Rattle.std.proofs.lemmas.Bool.{cases_lt}
@@ -14,15 +14,13 @@ use Rattle.body_model.proofs.ClassFacts.{straight_label}
 use Rattle.body_model.specs.Grammar.{Derives}
 use Rattle.body_model.specs.Switches.{is_among}
 use Rattle.body_model.specs.Targets.{targets}
-use Rattle.valid_model.specs.Definitions.{definition, inst_at, gives}
-use Rattle.check_model.specs.Branches.{label_behind}
+use Rattle.valid_model.specs.Definitions.{inst_at, gives}
 use Rattle.check_model.specs.Intervals.{intervals_of}
 use Rattle.check_model.specs.Validity.{IsValidList}
-use Rattle.stage_model.specs.declared.outcome.Kind.{Kind}
 use Rattle.stage_model.specs.declared.outcome.Kind.TheVariants.{Lost}
 use Rattle.stage_model.specs.Program.{Program, first_label_place, program_of}
 use Rattle.stage_model.specs.Start.{Values}
-use Rattle.stage_model.specs.Machine.{State, counted, To, Machine, Step, GoesOn, Ends, at, jump, back_to, led, step}
+use Rattle.stage_model.specs.Machine.{State, counted, To, Machine, Step, Ends, at, jump, led, step}
 use Rattle.stage_model.specs.Steps.{stays}
 use Rattle.stage_model.specs.Leads.{machine}
 use Rattle.stage_model.proofs.Comings.{one_step}
@@ -35,12 +33,12 @@ use Rattle.typed_model.proofs.ResultIds.{terminator_result}
 use Rattle.typed_model.proofs.RunningSteps.{LabelThere, label_there}
 use Rattle.typed_model.proofs.TypedSteps.{gives_at, not_none, visible_jump}
 use Rattle.typed_model.proofs.ValidFunctions.{lands}
-use Rattle.change_model.specs.Following.{AgreeOn, Round, returns, ends}
+use Rattle.change_model.specs.Following.{Round, returns, ends}
 use Rattle.change_model.specs.Plans.{Plan, is_dead, leads_from, written_at, changed}
 use Rattle.change_model.specs.PlanRules.{IsPlan, IsEnteredRightly, still_names}
 use Rattle.change_model.proofs.ChangedPlaces.{place_left, rises, rises_behind, kept_there}
 use Rattle.change_model.proofs.MovedUp.{function_is}
-use Rattle.change_model.proofs.PlanRuns.{LeftBy, IsSeen, ComesBy, IsSteady, AreBeside, IsSetting}
+use Rattle.change_model.proofs.PlanRuns.{LeftBy, IsSteady, AreBeside, IsSetting}
 use Rattle.change_model.proofs.PlanRunsSteady.{steady_on}
 
 -- ---- the label is left

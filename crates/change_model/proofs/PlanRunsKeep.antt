@@ -1,5 +1,5 @@
 -- The list that a plan makes does what the old one does, in no more steps.
-use Rattle.std.proofs.Common.{◌≡◌, ℕ, ◌+◌, ◌<◌, ◌≤◌, ◌==◌, inl, inr, Bool, true, false, List, take, refl, ap, sym, ◌∙◌, subst, arith, Option, Some}
+use Rattle.std.proofs.Common.{◌≡◌, ℕ, ◌+◌, ◌<◌, ◌==◌, inl, true, false, List, take, refl, ap, sym, ◌∙◌, subst, arith}
 use Rattle.spirv_model.specs.declared.module.Inst.{Inst}
 use Rattle.spirv_model.specs.declared.module.Words.{Words}
 use Rattle.spirv_model.specs.declared.builtin.TheConstants as builtin
@@ -11,9 +11,8 @@ use Rattle.check_model.specs.Validity.{IsValidList}
 use Rattle.state_model.specs.declared.parts.SpecValues.{SpecValues}
 use Rattle.state_model.specs.declared.buffers.Buffers.{Buffers}
 use Rattle.stage_model.specs.declared.inputs.Inputs.{Inputs}
-use Rattle.stage_model.specs.Program.{Program, program_of}
+use Rattle.stage_model.specs.Program.{program_of}
 use Rattle.stage_model.specs.Start.{Values, defined_by}
-use Rattle.stage_model.specs.Machine.{Machine}
 use Rattle.stage_model.specs.Stage.{Given, start_at, stage}
 use Rattle.typed_model.proofs.BlockParts.{clash}
 use Rattle.typed_model.proofs.RunningStart.{first_label_is, starts_with_label, start_here}

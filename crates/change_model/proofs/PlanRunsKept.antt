@@ -1,5 +1,5 @@
 -- Where an instruction of a block stays, both sides take a step.
-use Rattle.std.proofs.Common.{◌≡◌, ℕ, suc, ◌+◌, ◌<◌, ◌≤◌, ◌==◌, ◌||◌, inl, inr, Bool, true, false, nat_le, List, [], ◌∷◌, length, refl, ap, sym, ◌∙◌, subst, arith, Option, None, Some}
+use Rattle.std.proofs.Common.{◌≡◌, ℕ, ◌+◌, ◌<◌, ◌==◌, ◌||◌, inl, inr, Bool, true, false, nat_le, List, [], ◌∷◌, refl, ap, sym, ◌∙◌, arith, Option, None, Some}
 use Rattle.std.specs.List.{list_any}
 use Rattle.std.proofs.lemmas.Bool.Decides.{nat_tests}
 use Rattle.spirv_model.specs.declared.module.Inst.{Inst}
@@ -8,13 +8,13 @@ use Rattle.spirv_model.specs.declared.op.TheConstants as op
 use Rattle.spirv_model.specs.Operands.{word_at, result}
 use Rattle.body_model.specs.Classes.{is_terminator}
 use Rattle.valid_model.specs.Definitions.{definition, inst_at}
-use Rattle.check_model.specs.Intervals.{Interval, intervals_of, is_visible}
+use Rattle.check_model.specs.Intervals.{intervals_of, is_visible}
 use Rattle.check_model.specs.Validity.{IsValidList}
 use Rattle.stage_model.specs.Value.{Value}
 use Rattle.stage_model.specs.Program.{Program, program_of}
-use Rattle.stage_model.specs.Start.{Values, Memory, with_value}
+use Rattle.stage_model.specs.Start.{Values, with_value}
 use Rattle.stage_model.specs.Effect.{Effect, Passes, Gives, Writes, with_words}
-use Rattle.stage_model.specs.Machine.{State, Next, Machine, Step, GoesOn, after_effect, counted, done, led, step}
+use Rattle.stage_model.specs.Machine.{State, Next, Machine, GoesOn, after_effect, counted, done, led, step}
 use Rattle.stage_model.specs.Leads.{machine}
 use Rattle.typed_model.proofs.BlockParts.{clash}
 use Rattle.typed_model.proofs.FunctionRuns.{function_within}
@@ -22,14 +22,14 @@ use Rattle.typed_model.proofs.RunningDoes.{here_does}
 use Rattle.typed_model.proofs.TypedSteps.{seen}
 use Rattle.change_model.specs.declared.fate.Fate.{Fate}
 use Rattle.change_model.specs.declared.fate.Fate.TheVariants.{Dead, Stays, Goes, Picks, Folds, Nulls, Resolves, Skips, Unused}
-use Rattle.change_model.specs.Following.{AgreeOn, Round}
+use Rattle.change_model.specs.Following.{Round}
 use Rattle.change_model.specs.Plans.{Plan, written_at, kept_at}
-use Rattle.change_model.specs.PlanRules.{IsPlan, is_constant_fate, is_user, intervals_left, MayBeUnused, result_of as unused_of, store as unread_store, IsResolved, IsResolvedId}
+use Rattle.change_model.specs.PlanRules.{IsPlan, is_constant_fate, is_user, intervals_left, MayBeUnused, result_of as unused_of, store as unread_store, IsResolvedId}
 use Rattle.change_model.proofs.ChangedPlaces.{place_left}
 use Rattle.change_model.proofs.EffectKinds.{store_result}
 use Rattle.change_model.proofs.GivenResults.{gives_result}
 use Rattle.change_model.proofs.MachineSteps.{step_is, running_step}
-use Rattle.change_model.proofs.PlanRuns.{LeftBy, IsSeen, is_unused_at, is_unused_fate, is_fixed_at, AreFixed, IsSetting, AreBeside}
+use Rattle.change_model.proofs.PlanRuns.{LeftBy, IsSeen, is_unused_at, is_unused_fate, is_fixed_at, IsSetting, AreBeside}
 use Rattle.change_model.proofs.PlanRunsBehind.{stepped}
 use Rattle.change_model.proofs.PlanRunsJumps.{written_there}
 use Rattle.change_model.proofs.PlanRunsNames.{in_function, fits_as, written_by, place_on, own_name, phi_result}

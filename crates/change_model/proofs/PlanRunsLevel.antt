@@ -1,5 +1,5 @@
 -- Ids of the new module's level, and the values that they have where the new function begins.
-use Rattle.std.proofs.Common.{◌≡◌, ℕ, ◌+◌, ◌<◌, ◌≤◌, ◌==◌, ◌||◌, nat_le, if◌then◌else◌, Bool, true, false, List, [], ◌∷◌, length, take, refl, ap, sym, ◌∙◌, subst, arith, Option, None, Some}
+use Rattle.std.proofs.Common.{◌≡◌, ℕ, ◌<◌, ◌≤◌, ◌==◌, ◌||◌, nat_le, if◌then◌else◌, Bool, true, false, List, [], ◌∷◌, length, take, refl, ap, sym, ◌∙◌, subst, arith, Option, None, Some}
 use Rattle.std.specs.Option.{option_map, option_and_then}
 use Rattle.std.proofs.lemmas.Bool.Decides.{nat_tests}
 use Rattle.std.proofs.lemmas.Option.{get_or_from_slice_get}
@@ -18,7 +18,6 @@ use Rattle.stage_model.specs.Program.{Program, program_of}
 use Rattle.stage_model.specs.Start.{Values, of_scalar, constant_of, defined_by}
 use Rattle.typed_model.proofs.BlockParts.{clash}
 use Rattle.typed_model.proofs.FunctionRuns.{function_within as in_list}
-use Rattle.typed_model.proofs.ResultIds.{defined_id}
 use Rattle.typed_model.proofs.SilentSteps.{given_id}
 use Rattle.typed_model.proofs.TypedSteps.{gives_at}
 use Rattle.typed_model.proofs.ValidTypes.{defined_within}
@@ -27,20 +26,17 @@ use Rattle.change_model.specs.declared.fate.Fate.{Fate}
 use Rattle.change_model.specs.declared.fate.Fate.TheVariants.{Folds, Nulls}
 use Rattle.change_model.specs.Constants.{scalar_constant}
 use Rattle.change_model.specs.Folding.{function_at}
-use Rattle.change_model.specs.Plans.{Plan, constant_at, changed}
-use Rattle.change_model.specs.PlanRules.{is_constant_fate, IsPlan}
-use Rattle.change_model.specs.Settling.{is_plain_constant_class}
+use Rattle.change_model.specs.Plans.{Plan, changed}
+use Rattle.change_model.specs.PlanRules.{is_constant_fate}
 use Rattle.change_model.proofs.ChangedDefinitions.{old_defined, new_constant_there, constant_comes, constant_defined}
 use Rattle.change_model.proofs.ChangedMeanings.{alone_old, written_alone}
 use Rattle.change_model.proofs.ChangedPlaces.{constant_left, function_within, StoodAt, of_level, of_constant, of_function, stood_at}
 use Rattle.change_model.proofs.ChangedTypes.{level_defined_before}
-use Rattle.change_model.proofs.ConstantOperands.{HoldsScalar, holds_scalar, before_function, at_end, first_values}
-use Rattle.change_model.proofs.FoldedRuns.{IsOfLevel}
+use Rattle.change_model.proofs.ConstantOperands.{holds_scalar, before_function, at_end, first_values}
 use Rattle.change_model.proofs.MovedUp.{function_is}
-use Rattle.change_model.proofs.NewConstants.{IsPlainConstant, new_is_plain, folded_result, constant_result, written_result}
+use Rattle.change_model.proofs.NewConstants.{new_is_plain, folded_result, constant_result, written_result}
 use Rattle.change_model.proofs.Planned.{Planned, IsNewConstant, folds, nulls, is_written, is_new_constant}
 use Rattle.change_model.proofs.PlanRuns.{is_fixed_at, IsLevelId, FixRightly}
-use Rattle.change_model.proofs.PlanRunsSetting.{planned}
 use Rattle.change_model.proofs.SettledMeanings.{constant_is_constant}
 use Rattle.change_model.proofs.SettledValues.{only_there, value_at_end}
 

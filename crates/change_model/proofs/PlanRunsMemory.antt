@@ -1,21 +1,16 @@
 -- What variables hold where both functions begin.
-use Rattle.std.proofs.Common.{◌≡◌, ℕ, zero, suc, ◌+◌, ◌*◌, ◌/◌, ◌<◌, ◌≤◌, ◌==◌, ◌&&◌, if◌then◌else◌, inl, inr, Bool, true, false, List, [], ◌∷◌, ◌++◌, map, slice_index, slice_get, refl, ap, sym, ◌∙◌, subst, arith, Option, None, Some}
-use Rattle.std.specs.Prelude.{slice_index_or}
+use Rattle.std.proofs.Common.{◌≡◌, ℕ, ◌+◌, ◌*◌, ◌≤◌, ◌==◌, ◌&&◌, if◌then◌else◌, inl, inr, Bool, true, false, List, [], ◌∷◌, ◌++◌, refl, ap, sym, ◌∙◌, Option, None, Some}
 use Rattle.std.specs.List.{flat_map, range_with_len}
-use Rattle.std.specs.Option.{option_and_then, unwrap_or}
+use Rattle.std.specs.Option.{unwrap_or}
 use Rattle.std.proofs.lemmas.Bool.{cases_lt}
-use Rattle.std.proofs.lemmas.Bool.Decides.{nat_tests}
 use Rattle.spirv_model.specs.declared.module.Inst.{Inst}
 use Rattle.spirv_model.specs.declared.module.Words.{Words}
-use Rattle.spirv_model.specs.declared.op.TheConstants as op
 use Rattle.spirv_model.specs.declared.storage_class.TheConstants as storage_class
 use Rattle.spirv_model.specs.declared.decoration.TheConstants.{ARRAY_STRIDE, BUILT_IN, LOCATION, BINDING, DESCRIPTOR_SET}
-use Rattle.spirv_model.specs.Operands.{word_at}
-use Rattle.body_model.specs.Switches.{is_among}
 use Rattle.valid_model.specs.declared.meaning.Meaning.{Meaning}
 use Rattle.valid_model.specs.declared.meaning.Meaning.TheVariants.{Absent, Shape as OfShape, Constant, Variable, Value as OfValue, Label, Other}
 use Rattle.valid_model.specs.declared.meaning.Shape.{Shape}
-use Rattle.valid_model.specs.declared.meaning.Shape.TheVariants.{Int, IntVector, Array, Struct}
+use Rattle.valid_model.specs.declared.meaning.Shape.TheVariants.{Array, Struct}
 use Rattle.valid_model.specs.Definitions.{definition, inst_at}
 use Rattle.valid_model.specs.DecorationWords.{decoration_of}
 use Rattle.valid_model.specs.Knowledge.{meaning_in}
@@ -25,12 +20,11 @@ use Rattle.state_model.specs.declared.buffers.Buffers.{Buffers}
 use Rattle.stage_model.specs.declared.inputs.Inputs.{Inputs}
 use Rattle.stage_model.specs.Program.{Program, program_of, held, held_type, component_offsets, member_offsets, members_offsets, offsets_in, block_offsets, shifted}
 use Rattle.stage_model.specs.Start.{class_word, variable_word, first_memory, input_word}
-use Rattle.typed_model.proofs.BlockParts.{clash}
 use Rattle.typed_model.proofs.ModuleValues.{meaning_at}
 use Rattle.typed_model.proofs.ValidTypes.{defined_within, makes_variable}
 use Rattle.change_model.specs.Folding.{function_at}
 use Rattle.change_model.specs.Keeping.{AreZerosAt}
-use Rattle.change_model.specs.PlanRules.{is_input_of, is_nothing, is_among_locations, is_zero_input}
+use Rattle.change_model.specs.PlanRules.{is_input_of, is_nothing, is_among_locations}
 use Rattle.change_model.specs.Plans.{changed}
 use Rattle.change_model.specs.Programs.{plainly}
 use Rattle.change_model.proofs.ChangedDefinitions.{level_defined}

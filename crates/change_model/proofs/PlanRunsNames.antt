@@ -1,5 +1,5 @@
 -- What a plan asks of the instruction at a place with a fate, and which ids have other names.
-use Rattle.std.proofs.Common.{◌≡◌, ℕ, suc, ◌+◌, ◌<◌, ◌≤◌, ◌==◌, ◌||◌, inl, inr, Bool, true, false, nat_le, List, [], length, refl, ap, sym, ◌∙◌, subst, arith, Option, None, Some}
+use Rattle.std.proofs.Common.{◌≡◌, ℕ, suc, ◌+◌, ◌<◌, ◌==◌, inl, inr, true, List, length, refl, ap, ◌∙◌, subst, arith, Option, Some}
 use Rattle.std.proofs.lemmas.Bool.{cases_lt}
 use Rattle.spirv_model.specs.declared.module.Inst.{Inst}
 use Rattle.spirv_model.specs.declared.module.Words.{Words}
@@ -10,13 +10,12 @@ use Rattle.valid_model.specs.Definitions.{definition, inst_at}
 use Rattle.check_model.specs.Intervals.{intervals_of}
 use Rattle.check_model.specs.Validity.{IsValidList}
 use Rattle.stage_model.specs.Effect.{has_result_class}
-use Rattle.typed_model.proofs.BlockParts.{another}
 use Rattle.typed_model.proofs.FunctionRuns.{function_within}
 use Rattle.typed_model.proofs.ResultIds.{typed_result_id}
 use Rattle.change_model.specs.declared.fate.Fate.{Fate}
-use Rattle.change_model.specs.declared.fate.Fate.TheVariants.{Dead, Stays, Goes, Picks, Folds, Nulls, Resolves, Skips, Unused}
+use Rattle.change_model.specs.declared.fate.Fate.TheVariants.{Stays, Resolves}
 use Rattle.change_model.specs.Plans.{Plan, written_as, written_at}
-use Rattle.change_model.specs.PlanRules.{FateFits, IsResolved, IsResolvedId, IsPlan}
+use Rattle.change_model.specs.PlanRules.{FateFits, IsPlan}
 use Rattle.change_model.proofs.ChangedPlaces.{place_left, next_left}
 use Rattle.change_model.proofs.MovedUp.{function_is}
 use Rattle.change_model.proofs.PlanRunsValues.{own_defined}

@@ -1,5 +1,5 @@
 -- A load from an input that is zero gives the null of its type.
-use Rattle.std.proofs.Common.{◌≡◌, ℕ, zero, suc, ◌+◌, ◌<◌, ◌≤◌, ◌==◌, ◌||◌, not, Bool, true, false, nat_le, List, [], ◌∷◌, drop, map, slice_index, refl, ap, sym, ◌∙◌, subst, arith, Option, None, Some, is_some}
+use Rattle.std.proofs.Common.{◌≡◌, ℕ, zero, suc, ◌+◌, ◌==◌, ◌||◌, not, Bool, true, false, nat_le, List, [], ◌∷◌, drop, map, slice_index, refl, ap, sym, ◌∙◌, arith, Option, None, Some}
 use Rattle.std.specs.Option.{option_map, option_and_then}
 use Rattle.std.specs.List.{range_with_len}
 use Rattle.std.proofs.lemmas.List.{get_or-drop}
@@ -7,16 +7,16 @@ use Rattle.std.proofs.lemmas.Bool.Decides.{nat_tests}
 use Rattle.spirv_model.specs.declared.module.Inst.{Inst}
 use Rattle.spirv_model.specs.declared.module.Words.{Words}
 use Rattle.spirv_model.specs.declared.op.TheConstants as op
-use Rattle.spirv_model.specs.Operands.{word_at, entry_of, class_of, kinds, result}
-use Rattle.body_model.specs.Classes.{is_plain, is_terminator}
+use Rattle.spirv_model.specs.Operands.{word_at, entry_of, class_of}
+use Rattle.body_model.specs.Classes.{is_plain}
 use Rattle.body_model.proofs.ClassFacts.{plain_is_straight}
-use Rattle.valid_model.specs.Definitions.{definition, inst_at}
+use Rattle.valid_model.specs.Definitions.{inst_at}
 use Rattle.check_model.specs.Validity.{IsValidList}
 use Rattle.stage_model.specs.Value.{Value, Truth, Word, Composite, Pointer, Outside, Layout, OneTruth, OneWord, Several, Layouts, NoLayouts, LayoutsOf, PartsOf, size_of, value_of, parts_of, zero_of}
 use Rattle.stage_model.specs.Program.{Program, program_of}
 use Rattle.stage_model.specs.Start.{Values, Memory, all_values}
 use Rattle.stage_model.specs.Effect.{Effect, Gives, words_from, place_of, loaded, one, read_ids, result_of, effect_of}
-use Rattle.stage_model.specs.Machine.{Machine, read_from}
+use Rattle.stage_model.specs.Machine.{Machine}
 use Rattle.typed_model.proofs.EffectsRun.{instruction}
 use Rattle.typed_model.proofs.FunctionRuns.{function_within}
 use Rattle.typed_model.proofs.PlainRuns.{at_op}
@@ -27,7 +27,7 @@ use Rattle.change_model.specs.declared.fate.Fate.{Fate}
 use Rattle.change_model.specs.declared.fate.Fate.TheVariants.{Nulls, Resolves}
 use Rattle.change_model.specs.Following.{Round}
 use Rattle.change_model.specs.Plans.{Plan}
-use Rattle.change_model.specs.PlanRules.{is_constant_fate, is_zero_input, root_of, MayBeNull}
+use Rattle.change_model.specs.PlanRules.{is_constant_fate, is_zero_input, MayBeNull}
 use Rattle.change_model.proofs.EffectKinds.{IsPointerInto}
 use Rattle.change_model.proofs.GivenResults.{gives_result}
 use Rattle.change_model.proofs.PlanRuns.{LeftBy, IsSetting, AreBeside}

@@ -1,29 +1,27 @@
 -- Where nothing is written for an instruction of a block, the old side takes its step alone.
-use Rattle.std.proofs.Common.{◌≡◌, ℕ, suc, ◌+◌, ◌-◌, ◌&&◌, nat_le, nat_lt, if◌then◌else◌, ◌<◌, ◌≤◌, ◌==◌, inl, inr, Bool, true, false, List, [], length, slice_index, refl, ap, sym, ◌∙◌, subst, arith, Option, None, Some}
-use Rattle.std.proofs.lemmas.Bool.Decides.{nat_tests}
-use Rattle.spirv_model.specs.declared.module.Inst.{Inst}
+use Rattle.std.proofs.Common.{◌≡◌, ℕ, ◌+◌, ◌==◌, inl, inr, Bool, true, false, List, [], refl, ap, sym, ◌∙◌, arith, Some}
 use Rattle.spirv_model.specs.declared.module.Words.{Words}
 use Rattle.spirv_model.specs.declared.op.TheConstants as op
 use Rattle.spirv_model.specs.Operands.{word_at, result}
 use Rattle.body_model.specs.Classes.{is_terminator}
-use Rattle.valid_model.specs.Definitions.{definition, inst_at}
+use Rattle.valid_model.specs.Definitions.{inst_at}
 use Rattle.check_model.specs.Intervals.{intervals_of}
 use Rattle.check_model.specs.Validity.{IsValidList}
 use Rattle.stage_model.specs.Value.{Value}
 use Rattle.stage_model.specs.Program.{Program, program_of}
-use Rattle.stage_model.specs.Start.{Values, Memory, with_value}
+use Rattle.stage_model.specs.Start.{Values, with_value}
 use Rattle.stage_model.specs.Effect.{Effect, Passes, Gives, Writes, with_words}
-use Rattle.stage_model.specs.Machine.{State, Machine, Step, GoesOn, after_effect, led, step}
+use Rattle.stage_model.specs.Machine.{Machine, GoesOn, after_effect, led, step}
 use Rattle.stage_model.specs.Leads.{machine}
 use Rattle.typed_model.proofs.FunctionRuns.{function_within}
 use Rattle.typed_model.proofs.RunningDoes.{here_does}
-use Rattle.change_model.specs.Following.{AgreeOn, HoldSame, Round}
+use Rattle.change_model.specs.Following.{AgreeOn, Round}
 use Rattle.change_model.specs.Plans.{Plan, written_at}
 use Rattle.change_model.specs.PlanRules.{IsPlan}
 use Rattle.change_model.proofs.ChangedPlaces.{place_left}
 use Rattle.change_model.proofs.GivenResults.{gives_result}
 use Rattle.change_model.proofs.MachineSteps.{running_step}
-use Rattle.change_model.proofs.PlanRuns.{LeftBy, IsSeen, IsHeld, AreBeside}
+use Rattle.change_model.proofs.PlanRuns.{LeftBy, IsSeen, AreBeside}
 use Rattle.change_model.proofs.PlanRunsBehind.{passed}
 use Rattle.change_model.proofs.PlanRunsNames.{place_on}
 use Rattle.change_model.proofs.PlanRunsSteady.{steady_on}

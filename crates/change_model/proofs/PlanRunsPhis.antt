@@ -1,5 +1,5 @@
 -- What a phi takes on the old side: the value of the id that it pairs with the block before, on which both sides agreed at that block's end.
-use Rattle.std.proofs.Common.{◌≡◌, ℕ, ◌+◌, ◌<◌, ◌≤◌, ◌==◌, ◌||◌, ◌⊎◌, inl, inr, Bool, true, false, if◌then◌else◌, List, [], ◌∷◌, drop, take, map, filter, refl, ap, sym, ◌∙◌, subst, arith, Option, None, Some}
+use Rattle.std.proofs.Common.{◌≡◌, ℕ, ◌+◌, ◌<◌, ◌≤◌, ◌==◌, ◌||◌, inl, inr, Bool, true, false, if◌then◌else◌, List, [], ◌∷◌, drop, take, map, filter, refl, ap, sym, ◌∙◌, subst, arith, Option, None, Some}
 use Rattle.std.specs.Prelude.{slice_get}
 use Rattle.std.specs.Option.{option_map, option_and_then}
 use Rattle.std.proofs.lemmas.Bool.Decides.{nat_tests}
@@ -8,7 +8,6 @@ use Rattle.spirv_model.specs.declared.module.Words.{Words}
 use Rattle.spirv_model.specs.declared.op.TheConstants as op
 use Rattle.spirv_model.specs.Operands.{word_at, entry_of, class_of}
 use Rattle.body_model.specs.Classes.{is_terminator}
-use Rattle.body_model.specs.Grammar.{Derives}
 use Rattle.body_model.specs.Switches.{is_among}
 use Rattle.body_model.specs.Targets.{targets}
 use Rattle.valid_model.specs.Definitions.{definition, inst_at}
@@ -22,8 +21,8 @@ use Rattle.stage_model.specs.Value.{Value}
 use Rattle.stage_model.specs.Program.{Program, program_of}
 use Rattle.stage_model.specs.Start.{Values, Memory, all_values}
 use Rattle.stage_model.specs.Effect.{Effect, Gives, paired_with, read_ids, result_of, effect_of}
-use Rattle.stage_model.specs.Machine.{Machine, read_from}
-use Rattle.typed_model.specs.Judgement.{HasValue, AreTyped}
+use Rattle.stage_model.specs.Machine.{Machine}
+use Rattle.typed_model.specs.Judgement.{AreTyped}
 use Rattle.typed_model.specs.Running.{IsInFirst, Came, IsEntered}
 use Rattle.typed_model.proofs.BlockLists.{Has, block_to, blocks_have}
 use Rattle.typed_model.proofs.BlockParts.{another, clash}
@@ -35,7 +34,7 @@ use Rattle.typed_model.proofs.PlainRuns.{at_op}
 use Rattle.typed_model.proofs.RunningDoes.{behind_start, here_does}
 use Rattle.typed_model.proofs.StepsDone.{reads_entry}
 use Rattle.change_model.specs.Plans.{Plan, leads_from, is_led_by, predecessors_left, block_at}
-use Rattle.change_model.proofs.PlanRuns.{IsSeen, is_unused_at, ComesBy, EnteredBoth, AreBeside}
+use Rattle.change_model.proofs.PlanRuns.{is_unused_at, EnteredBoth, AreBeside}
 use Rattle.change_model.proofs.PlanRunsReads.{seen_by}
 
 -- ---- the block before is one that is left

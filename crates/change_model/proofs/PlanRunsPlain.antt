@@ -1,26 +1,23 @@
 -- Plain instructions that stay do the same with the same values.
-use Rattle.std.proofs.Common.{◌≡◌, ℕ, ◌+◌, ◌<◌, ◌≤◌, ◌==◌, ◌||◌, Bool, true, false, List, [], ◌∷◌, map, slice_index, refl, ap, sym, ◌∙◌, subst, arith, Option, None, Some, is_some}
-use Rattle.std.specs.List.{list_any}
+use Rattle.std.proofs.Common.{◌≡◌, ℕ, ◌<◌, ◌==◌, ◌||◌, Bool, true, false, List, [], ◌∷◌, map, slice_index, refl, ap, sym, ◌∙◌, subst, arith, Option, None, Some}
 use Rattle.std.specs.Option.{option_map, option_and_then}
 use Rattle.std.proofs.lemmas.Bool.Decides.{nat_tests}
 use Rattle.spirv_model.specs.declared.module.Inst.{Inst}
 use Rattle.spirv_model.specs.declared.module.Words.{Words}
 use Rattle.spirv_model.specs.declared.op.TheConstants as op
-use Rattle.spirv_model.specs.Operands.{word_at, entry_of, class_of, kinds, result}
-use Rattle.body_model.specs.Classes.{is_plain, is_terminator}
+use Rattle.spirv_model.specs.Operands.{word_at, entry_of, class_of, result}
+use Rattle.body_model.specs.Classes.{is_plain}
 use Rattle.body_model.proofs.ClassFacts.{plain_is_straight}
-use Rattle.body_model.specs.Switches.{is_among}
 use Rattle.valid_model.specs.declared.meaning.Meaning.{Meaning}
 use Rattle.valid_model.specs.declared.meaning.Meaning.TheVariants.{Absent, Shape as OfShape, Constant, Variable, Value as OfValue, Label, Other}
 use Rattle.valid_model.specs.declared.meaning.Shape.{Shape}
 use Rattle.valid_model.specs.declared.meaning.Shape.TheVariants.{BoolVector, IntVector}
 use Rattle.valid_model.specs.Definitions.{definition, inst_at}
 use Rattle.check_model.specs.Validity.{IsValidList}
-use Rattle.check_model.specs.Visibility.{used_ids}
 use Rattle.stage_model.specs.Value.{Value, Truth, Word, Composite, Pointer, Outside}
-use Rattle.stage_model.specs.Program.{Program, held_layout, program_of}
+use Rattle.stage_model.specs.Program.{Program, program_of}
 use Rattle.stage_model.specs.Operations.{is_vector}
-use Rattle.stage_model.specs.Start.{Values, Memory, all_values, with_value}
+use Rattle.stage_model.specs.Start.{Values, all_values, with_value}
 use Rattle.stage_model.specs.Effect.{Effect, Passes, Gives, Writes, read_ids, effect_of}
 use Rattle.stage_model.specs.Machine.{State, Next, Machine, counted, after_effect, read_from, read_values, done}
 use Rattle.typed_model.proofs.BlockParts.{another}
@@ -33,17 +30,16 @@ use Rattle.typed_model.proofs.StepsDone.{reads_now}
 use Rattle.typed_model.proofs.ValidModules.{valid_sound}
 use Rattle.change_model.specs.declared.fate.Fate.TheVariants.{Stays}
 use Rattle.change_model.specs.Following.{Round}
-use Rattle.change_model.specs.Plans.{Plan, renamed_by, kept_at, written_at}
-use Rattle.change_model.specs.PlanRules.{IsPlan, is_user, is_incoming, root_of, MayStay}
+use Rattle.change_model.specs.Plans.{Plan}
+use Rattle.change_model.specs.PlanRules.{root_of, MayStay}
 use Rattle.change_model.proofs.ChangedShapes.{shape_in}
-use Rattle.change_model.proofs.EffectKinds.{may_pass, IsPointerInto, DoesInner, does_inner, passes, gives, writes, store_result}
+use Rattle.change_model.proofs.EffectKinds.{may_pass, DoesInner, does_inner, passes, gives, writes, store_result}
 use Rattle.change_model.proofs.EffectsAlike.{PointsAlike, AllPointAlike, HoldsAlike, FirstHoldsAlike, LoadsAlike, effect_alike}
 use Rattle.change_model.proofs.GivenResults.{gives_result}
 use Rattle.change_model.proofs.MachineSteps.{done_by_reads}
 use Rattle.change_model.proofs.PlanRuns.{LeftBy, is_unused_at, IsSetting, AreBeside}
-use Rattle.change_model.proofs.PlanRunsKept.{Both, kept_here, used_left, kept_given, kept_silent, kept_written}
+use Rattle.change_model.proofs.PlanRunsKept.{Both, kept_here, kept_given, kept_silent, kept_written}
 use Rattle.change_model.proofs.PlanRunsNames.{written_by}
-use Rattle.change_model.proofs.PlanRunsPassed.{IsUnseen}
 use Rattle.change_model.proofs.PlanRunsReads.{IsReadAt, plain_reads, values_agree, each_agree}
 use Rattle.change_model.proofs.PlanRunsRenamed.{renamed, IsRenamed, plain_renamed}
 use Rattle.change_model.proofs.PlanRunsRoots.{all_left, kept_plain, root_held}

@@ -1,5 +1,5 @@
 -- Which values of ids are pointers: those of variables and of chains from them.
-use Rattle.std.proofs.Common.{◌≡◌, ℕ, zero, suc, ◌+◌, ◌<◌, ◌==◌, ◌&&◌, not, Bool, true, false, if◌then◌else◌, List, [], ◌∷◌, ◌++◌, drop, slice_index, refl, ap, sym, ◌∙◌, subst, arith, Option, None, Some, is_some}
+use Rattle.std.proofs.Common.{◌≡◌, ℕ, zero, suc, ◌==◌, ◌&&◌, not, Bool, true, false, List, [], ◌∷◌, ◌++◌, refl, ap, sym, ◌∙◌, subst, arith, Option, None, Some, is_some}
 use Rattle.std.specs.Prelude.{slice_get}
 use Rattle.std.specs.List.{list_all}
 use Rattle.std.specs.Option.{option_map, option_and_then}
@@ -8,24 +8,24 @@ use Rattle.spirv_model.specs.declared.module.Inst.{Inst}
 use Rattle.spirv_model.specs.declared.op.TheConstants as op
 use Rattle.spirv_model.specs.declared.class.ScalarClass.{ScalarClass}
 use Rattle.spirv_model.specs.declared.class.ScalarClass.TheVariants.{Bitcast, WordFromWord, WordFromWords, TruthFromWords, TruthFromTruth, TruthFromTruths, Select}
-use Rattle.spirv_model.specs.Operands.{word_at, words_from, entry_of, class_of, kinds}
+use Rattle.spirv_model.specs.Operands.{word_at, entry_of, class_of, kinds}
 use Rattle.valid_model.specs.declared.meaning.Meaning.{Meaning}
 use Rattle.valid_model.specs.declared.meaning.Meaning.TheVariants.{Shape as OfShape}
 use Rattle.valid_model.specs.declared.meaning.Shape.TheVariants.{Pointer as PointerType}
 use Rattle.valid_model.specs.Knowledge.{is_bool, is_data}
 use Rattle.valid_model.specs.ModuleFacts.{is_word}
 use Rattle.valid_model.specs.Shapes.{pointee_id}
-use Rattle.check_model.specs.CompositeOperands.{parts_fit, extract_fits, insert_fits, shuffle_fits, reduction_fits, composite_operands_fit}
-use Rattle.check_model.specs.MemoryOperands.{load_fits, chain_fits, memory_operands_fit}
+use Rattle.check_model.specs.CompositeOperands.{parts_fit, shuffle_fits, reduction_fits, composite_operands_fit}
+use Rattle.check_model.specs.MemoryOperands.{load_fits}
 use Rattle.check_model.specs.OperandTypes.{is_pointer, incoming_fits}
 use Rattle.check_model.specs.ScalarOperands.{unary_fits, binary_fits, select_fits, condition_fits, scalar_operands_fit, is_select}
-use Rattle.check_model.specs.Typing.{Typing, type_id, type_of, has_type, components_in}
-use Rattle.check_model.specs.Visibility.{Incoming, incoming_in, incoming}
+use Rattle.check_model.specs.Typing.{Typing, type_of, has_type, components_in}
+use Rattle.check_model.specs.Visibility.{Incoming, incoming_in}
 use Rattle.stage_model.specs.Value.{Value, Truth, Word, Composite, Pointer, Outside, Parts, NoParts, PartsOf, Layout, Several, Layouts, list_of}
 use Rattle.stage_model.specs.Program.{Program}
 use Rattle.stage_model.specs.Start.{Values, Memory, all_values}
 use Rattle.stage_model.specs.Operations.{parts_in, extracted, inserted, replaced, composite}
-use Rattle.stage_model.specs.Effect.{Effect, Gives, paired_with, pointer_along, place_of, all_words, chained, chain_of, one, inserted_in, read_ids, result_of, effect_of}
+use Rattle.stage_model.specs.Effect.{Gives, paired_with, pointer_along, place_of, all_words, chained, chain_of, read_ids, result_of, effect_of}
 use Rattle.typed_model.specs.Types.{HasTypes, AllSuit, typing_in}
 use Rattle.typed_model.specs.Values.{layout_in, layouts_in, layouts_with, HasLayout, IsOfType, IsOfMeaning}
 use Rattle.typed_model.proofs.EffectsRun.{instruction}

@@ -1,5 +1,5 @@
 -- What an instruction of a function reads is visible there and has a type.
-use Rattle.std.proofs.Common.{◌≡◌, ℕ, ◌+◌, ◌<◌, ◌≤◌, ◌==◌, ◌||◌, Bool, true, false, List, [], ◌∷◌, length, map, refl, ap, sym, ◌∙◌, subst, arith, Option, None, Some, is_some}
+use Rattle.std.proofs.Common.{◌≡◌, ℕ, ◌<◌, Bool, true, false, List, [], ◌∷◌, map, refl, ap, sym, ◌∙◌, subst, Option, None, Some, is_some}
 use Rattle.std.specs.Option.{option_map, option_and_then}
 use Rattle.spirv_model.specs.declared.module.Inst.{Inst}
 use Rattle.spirv_model.specs.declared.module.Words.{Words}
@@ -11,7 +11,7 @@ use Rattle.body_model.specs.Classes.{is_plain_class, is_plain}
 use Rattle.valid_model.specs.Definitions.{definition, inst_at}
 use Rattle.valid_model.specs.ModuleFacts.{is_vertex, facts_of}
 use Rattle.valid_model.specs.Meanings.{meaning}
-use Rattle.check_model.specs.Intervals.{Interval, intervals_of, is_visible}
+use Rattle.check_model.specs.Intervals.{Interval, intervals_of}
 use Rattle.check_model.specs.OperandTypes.{operands_fit_class, operands_fit}
 use Rattle.check_model.specs.Typing.{typing_of, type_id}
 use Rattle.check_model.specs.Validity.{IsValidList}
@@ -21,13 +21,12 @@ use Rattle.stage_model.specs.Program.{program_of}
 use Rattle.stage_model.specs.Start.{Values, all_values}
 use Rattle.stage_model.specs.Effect.{read_ids}
 use Rattle.typed_model.proofs.BlockParts.{another}
-use Rattle.typed_model.proofs.EffectsRun.{instruction}
 use Rattle.typed_model.proofs.FunctionRuns.{function_within}
 use Rattle.typed_model.proofs.PlainRuns.{at_op}
 use Rattle.typed_model.proofs.ReadTypes.{Each}
 use Rattle.typed_model.proofs.ReadValues.{IsSeen as IsUsed, uses_seen, typing_here, numbers_typed}
 use Rattle.typed_model.proofs.ResultIds.{is_named, named}
-use Rattle.typed_model.proofs.UsedReads.{IsRead, memory_reads, composite_reads, scalar_uses, conditional_reads, switch_reads}
+use Rattle.typed_model.proofs.UsedReads.{IsRead, memory_reads, composite_reads, scalar_uses}
 use Rattle.typed_model.proofs.ValidModules.{valid_seen, valid_sound}
 use Rattle.change_model.specs.Following.{AgreeOn}
 use Rattle.change_model.specs.Plans.{Plan}

@@ -1,5 +1,5 @@
 -- A plain instruction with other names for its operands reads these and does the same with their values.
-use Rattle.std.proofs.Common.{◌≡◌, ℕ, ◌==◌, ◌&&◌, ◌||◌, Bool, true, false, if◌then◌else◌, List, [], ◌∷◌, length, take, drop, map, slice_index, refl, ap, sym, ◌∙◌, subst, arith, Option, None, Some, is_some}
+use Rattle.std.proofs.Common.{◌≡◌, ℕ, ◌==◌, ◌||◌, Bool, true, false, if◌then◌else◌, List, [], ◌∷◌, length, drop, map, slice_index, refl, ap, sym, ◌∙◌, subst, arith, Option, None, Some, is_some}
 use Rattle.std.specs.List.{list_all}
 use Rattle.std.specs.Option.{option_map}
 use Rattle.std.proofs.lemmas.Bool.Decides.{nat_tests}
@@ -23,7 +23,7 @@ use Rattle.stage_model.specs.Value.{Value}
 use Rattle.stage_model.specs.Program.{Program}
 use Rattle.stage_model.specs.Start.{Memory}
 use Rattle.stage_model.specs.Operations.{operation}
-use Rattle.stage_model.specs.Effect.{Effect, Gives, read_ids, result_of, effect_of}
+use Rattle.stage_model.specs.Effect.{read_ids, result_of, effect_of}
 use Rattle.typed_model.proofs.EffectsRun.{instruction}
 use Rattle.typed_model.proofs.PlainRuns.{at_op, scalar_reads, scalar_effect}
 use Rattle.typed_model.proofs.ReadTypes.{Each}

@@ -1,7 +1,6 @@
 -- A phi that goes: the id that stands for it has the value that the phi takes.
-use Rattle.std.proofs.Common.{◌≡◌, ℕ, ◌+◌, ◌<◌, ◌≤◌, ◌==◌, ◌||◌, not, Bool, true, false, nat_le, if◌then◌else◌, List, [], ◌∷◌, drop, refl, ap, sym, ◌∙◌, subst, arith, Option, None, Some}
+use Rattle.std.proofs.Common.{◌≡◌, ℕ, ◌==◌, ◌||◌, not, Bool, true, false, nat_le, if◌then◌else◌, List, [], ◌∷◌, refl, ap, sym, ◌∙◌, arith, Some}
 use Rattle.std.proofs.lemmas.Bool.Decides.{nat_tests}
-use Rattle.spirv_model.specs.declared.module.Inst.{Inst}
 use Rattle.spirv_model.specs.declared.module.Words.{Words}
 use Rattle.spirv_model.specs.declared.op.TheConstants as op
 use Rattle.spirv_model.specs.Operands.{word_at, words_from}
@@ -12,7 +11,6 @@ use Rattle.valid_model.specs.Definitions.{definition, inst_at}
 use Rattle.check_model.specs.Intervals.{intervals_of}
 use Rattle.check_model.specs.Validity.{IsValidList}
 use Rattle.check_model.specs.Visibility.{Incoming, incoming_in}
-use Rattle.stage_model.specs.Value.{Value}
 use Rattle.stage_model.specs.Program.{Program, program_of}
 use Rattle.stage_model.specs.Start.{Values}
 use Rattle.stage_model.specs.Effect.{paired_with}
@@ -21,10 +19,10 @@ use Rattle.change_model.specs.declared.fate.Fate.TheVariants.{Resolves}
 use Rattle.change_model.specs.Following.{Round}
 use Rattle.change_model.specs.Plans.{Plan, predecessors_left, block_at}
 use Rattle.change_model.specs.PlanRules.{pairs_in, is_constant_fate, IsResolved}
-use Rattle.change_model.proofs.PlanRuns.{LeftBy, IsSeen, is_unused_at, IsSetting, AreBeside}
+use Rattle.change_model.proofs.PlanRuns.{LeftBy, is_unused_at, IsSetting, AreBeside}
 use Rattle.change_model.proofs.PlanRunsNames.{written_by}
 use Rattle.change_model.proofs.PlanRunsPassed.{passed_given}
-use Rattle.change_model.proofs.PlanRunsPhis.{PhiReads, phi_reads}
+use Rattle.change_model.proofs.PlanRunsPhis.{phi_reads}
 
 -- ---- the one pair that is left
 

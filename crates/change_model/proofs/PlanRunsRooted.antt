@@ -1,5 +1,5 @@
 -- What an instruction of the function gives leads into the variable that its id is made from.
-use Rattle.std.proofs.Common.{◌≡◌, ℕ, ◌+◌, ◌<◌, ◌≤◌, ◌==◌, ◌||◌, Bool, true, false, if◌then◌else◌, List, [], ◌∷◌, length, drop, slice_index, refl, ap, sym, ◌∙◌, subst, arith, Option, None, Some, is_some}
+use Rattle.std.proofs.Common.{◌≡◌, ℕ, ◌+◌, ◌<◌, ◌≤◌, ◌==◌, Bool, true, false, if◌then◌else◌, List, [], ◌∷◌, length, drop, slice_index, refl, ap, sym, ◌∙◌, subst, arith, Option, None, Some, is_some}
 use Rattle.std.specs.List.{list_all}
 use Rattle.std.specs.Option.{option_map}
 use Rattle.std.proofs.lemmas.Bool.Decides.{nat_tests}
@@ -9,12 +9,12 @@ use Rattle.spirv_model.specs.declared.op.TheConstants as op
 use Rattle.spirv_model.specs.declared.class.Class.{Class}
 use Rattle.spirv_model.specs.declared.class.Class.TheVariants as class
 use Rattle.spirv_model.specs.Operands.{word_at, words_from, entry_of, class_of, kinds, result}
-use Rattle.body_model.specs.Classes.{is_plain_class, is_plain, is_terminator}
+use Rattle.body_model.specs.Classes.{is_plain_class, is_plain}
 use Rattle.valid_model.specs.declared.meaning.Meaning.TheVariants.{Variable}
 use Rattle.valid_model.specs.Definitions.{definition, inst_at}
 use Rattle.valid_model.specs.Meanings.{meaning, known_before}
 use Rattle.check_model.specs.CompositeOperands.{composite_operands_fit}
-use Rattle.check_model.specs.Intervals.{intervals_of, is_visible}
+use Rattle.check_model.specs.Intervals.{intervals_of}
 use Rattle.check_model.specs.MemoryOperands.{memory_operands_fit, chain_fits}
 use Rattle.check_model.specs.OperandTypes.{is_pointer, incoming_fits, operands_fit, operands_fit_class}
 use Rattle.check_model.specs.Typing.{Typing, type_id, constant_word, typing_of}
@@ -24,11 +24,11 @@ use Rattle.stage_model.specs.Value.{Value, Pointer}
 use Rattle.stage_model.specs.Program.{Program, program_of}
 use Rattle.stage_model.specs.Start.{Values, Memory, all_values}
 use Rattle.stage_model.specs.Effect.{Effect, Gives, paired_with, read_ids, one, result_of, effect_of}
-use Rattle.stage_model.specs.Machine.{Machine, read_from}
+use Rattle.stage_model.specs.Machine.{Machine}
 use Rattle.typed_model.specs.Effects.{IsTypedEffect}
 use Rattle.typed_model.specs.Running.{IsRunning}
 use Rattle.typed_model.specs.Types.{AllSuit}
-use Rattle.typed_model.proofs.BlockParts.{BlockPart, a_label, a_phi, a_variable, a_selection_merge, a_loop_merge, a_plain_one, a_terminator, clash, another}
+use Rattle.typed_model.proofs.BlockParts.{BlockPart, a_label, a_phi, a_variable, a_selection_merge, a_loop_merge, a_plain_one, a_terminator}
 use Rattle.typed_model.proofs.Chains.{rule_by}
 use Rattle.typed_model.proofs.EffectsRun.{instruction}
 use Rattle.typed_model.proofs.FunctionRuns.{part_at, function_within}

@@ -1,5 +1,5 @@
 -- The variable that a pointer leads into which both sides have is left, and holds values of the same layout.
-use Rattle.std.proofs.Common.{◌≡◌, ℕ, suc, ◌+◌, ◌<◌, ◌≤◌, ◌==◌, ◌&&◌, ◌||◌, not, inl, inr, Bool, true, false, List, [], ◌∷◌, length, refl, ap, sym, ◌∙◌, subst, arith, Option, None, Some}
+use Rattle.std.proofs.Common.{◌≡◌, ℕ, ◌<◌, ◌==◌, ◌&&◌, ◌||◌, not, inl, inr, Bool, true, false, List, [], ◌∷◌, refl, ap, sym, ◌∙◌, subst, arith, Option, None, Some}
 use Rattle.std.specs.List.{list_any}
 use Rattle.std.proofs.lemmas.Bool.{cases_lt}
 use Rattle.std.proofs.lemmas.Bool.Decides.{nat_tests}
@@ -7,14 +7,14 @@ use Rattle.basics.proofs.Bools.{first_of_both, second_of_both}
 use Rattle.spirv_model.specs.declared.module.Inst.{Inst}
 use Rattle.spirv_model.specs.declared.module.Words.{Words}
 use Rattle.spirv_model.specs.declared.op.TheConstants as op
-use Rattle.spirv_model.specs.Operands.{word_at, entry_of, class_of, kinds}
+use Rattle.spirv_model.specs.Operands.{word_at, entry_of, class_of}
 use Rattle.body_model.specs.Classes.{is_plain}
 use Rattle.body_model.specs.Switches.{is_among}
 use Rattle.valid_model.specs.declared.meaning.Meaning.{Meaning}
 use Rattle.valid_model.specs.declared.meaning.Meaning.TheVariants.{Shape as OfShape, Variable}
 use Rattle.valid_model.specs.declared.meaning.Shape.TheVariants.{Pointer as PointerType}
 use Rattle.valid_model.specs.Definitions.{definition, inst_at}
-use Rattle.valid_model.specs.Meanings.{meaning, known_before}
+use Rattle.valid_model.specs.Meanings.{known_before}
 use Rattle.check_model.specs.Intervals.{Interval, has_place, intervals_of, is_visible}
 use Rattle.check_model.specs.Typing.{type_id}
 use Rattle.check_model.specs.Validity.{IsValidList}
@@ -25,7 +25,7 @@ use Rattle.stage_model.specs.Start.{Values}
 use Rattle.stage_model.specs.Effect.{read_ids}
 use Rattle.stage_model.specs.Machine.{Machine}
 use Rattle.typed_model.specs.Jumps.{keeps}
-use Rattle.typed_model.specs.Values.{PointsTo, IsOfMeaning}
+use Rattle.typed_model.specs.Values.{IsOfMeaning}
 use Rattle.typed_model.proofs.BlockParts.{clash}
 use Rattle.typed_model.proofs.FunctionRuns.{function_within}
 use Rattle.typed_model.proofs.ModuleValues.{meaning_at}
@@ -44,7 +44,7 @@ use Rattle.change_model.proofs.PlanRuns.{is_unused_fate, is_unused_at, IsSetting
 use Rattle.change_model.proofs.PlanRunsKept.{used_left}
 use Rattle.change_model.proofs.PlanRunsNames.{fits_as, written_by, own_name}
 use Rattle.change_model.proofs.PlanRunsReads.{IsReadAt, plain_reads, means}
-use Rattle.change_model.proofs.PlanRunsRenamed.{renamed, IsRenamed, plain_renamed}
+use Rattle.change_model.proofs.PlanRunsRenamed.{renamed, plain_renamed}
 use Rattle.change_model.proofs.PlanRunsRooted.{BaseOf, chain_base, chain_root, own_root}
 use Rattle.change_model.proofs.PlanRunsSetting.{held_where}
 use Rattle.change_model.proofs.PlanRunsSilent.{read_rooted}

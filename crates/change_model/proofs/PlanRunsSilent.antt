@@ -1,28 +1,27 @@
 -- Merge instructions that go, and what nobody uses.
-use Rattle.std.proofs.Common.{◌≡◌, ℕ, suc, ◌+◌, ◌<◌, ◌≤◌, ◌==◌, ◌||◌, inl, inr, Bool, true, false, List, [], ◌∷◌, length, refl, ap, sym, ◌∙◌, subst, arith, Option, None, Some, is_some}
+use Rattle.std.proofs.Common.{◌≡◌, ℕ, ◌+◌, ◌==◌, ◌||◌, Bool, true, false, List, refl, ap, sym, ◌∙◌, arith, Option, None, Some}
 use Rattle.std.proofs.lemmas.Bool.Decides.{nat_tests}
 use Rattle.spirv_model.specs.declared.module.Inst.{Inst}
 use Rattle.spirv_model.specs.declared.module.Words.{Words}
 use Rattle.spirv_model.specs.declared.op.TheConstants as op
-use Rattle.spirv_model.specs.Operands.{word_at, entry_of, class_of, kinds, result}
+use Rattle.spirv_model.specs.Operands.{word_at, entry_of, class_of, result}
 use Rattle.body_model.specs.Classes.{is_plain, is_terminator}
 use Rattle.body_model.proofs.ClassFacts.{straight_phi, straight_variable, straight_store, straight_selection_merge, straight_loop_merge, plain_is_straight}
 use Rattle.valid_model.specs.Definitions.{definition, inst_at, gives}
-use Rattle.check_model.specs.Intervals.{intervals_of, is_visible}
+use Rattle.check_model.specs.Intervals.{intervals_of}
 use Rattle.check_model.specs.Typing.{type_id}
 use Rattle.check_model.specs.Validity.{IsValidList}
 use Rattle.check_model.specs.Visibility.{is_defined_for}
 use Rattle.stage_model.specs.Value.{Value, Pointer}
 use Rattle.stage_model.specs.Program.{Program, program_of}
 use Rattle.stage_model.specs.Start.{Values, Memory, all_values}
-use Rattle.stage_model.specs.Effect.{Effect, Passes, Gives, Writes, read_ids, effect_of}
+use Rattle.stage_model.specs.Effect.{Effect, Passes, read_ids, effect_of}
 use Rattle.stage_model.specs.Machine.{Machine, read_from}
 use Rattle.typed_model.proofs.BlockParts.{another, clash}
 use Rattle.typed_model.proofs.EffectsRun.{instruction}
 use Rattle.typed_model.proofs.FunctionRuns.{function_within}
 use Rattle.typed_model.proofs.InstructionsRun.{Does}
 use Rattle.typed_model.proofs.PlainRuns.{at_op}
-use Rattle.typed_model.proofs.ReadTypes.{Each}
 use Rattle.typed_model.proofs.RunningDoes.{here_does}
 use Rattle.typed_model.proofs.StepsDone.{reads_now}
 use Rattle.typed_model.proofs.TypedSteps.{gives_at, not_none}
@@ -30,16 +29,16 @@ use Rattle.typed_model.proofs.ValidModules.{valid_sound}
 use Rattle.change_model.specs.Following.{Round}
 use Rattle.change_model.specs.declared.fate.Fate.{Fate}
 use Rattle.change_model.specs.declared.fate.Fate.TheVariants.{Resolves, Skips, Unused}
-use Rattle.change_model.specs.Plans.{Plan, written_at}
+use Rattle.change_model.specs.Plans.{Plan}
 use Rattle.change_model.specs.PlanRules.{IsPlan, MaySkip, selection, loop, MayBeUnused, result_of as unused_of, store as unread_store, root_of}
 use Rattle.change_model.proofs.EffectKinds.{DoesInner, does_inner, passes, gives as gives_one, writes, store_result, IsPointerInto, stored_pointer}
 use Rattle.change_model.proofs.GivenResults.{gives_result}
 use Rattle.change_model.proofs.PlanRuns.{LeftBy, IsSeen, is_unused_at, is_unused_fate, IsSteady, AreBeside}
-use Rattle.change_model.proofs.PlanRunsNames.{in_function, fits_as, written_by, own_name}
-use Rattle.change_model.proofs.PlanRunsPassed.{Alone, effect_here, IsUnseen, passed_given, passed_silent, passed_written}
+use Rattle.change_model.proofs.PlanRunsNames.{written_by, own_name}
+use Rattle.change_model.proofs.PlanRunsPassed.{Alone, IsUnseen, passed_given, passed_silent, passed_written}
 use Rattle.change_model.proofs.PlanRunsReads.{IsReadAt, plain_reads, means}
 use Rattle.change_model.proofs.PlanRunsStores.{store_plain, first_of}
-use Rattle.change_model.proofs.PlanRunsValues.{own_defined, result_at}
+use Rattle.change_model.proofs.PlanRunsValues.{own_defined}
 
 same_op : (opcode own : ℕ) → opcode ≡ own → opcode == own ≡ true
 same_op opcode own is = grind (arith, nat_tests)

@@ -1,8 +1,7 @@
 -- Where both functions begin: the places, and the values of the ids of the module's level.
-use Rattle.std.proofs.Common.{◌≡◌, ℕ, zero, suc, ◌+◌, ◌<◌, ◌≤◌, ◌⊎◌, ◌==◌, ◌&&◌, ◌||◌, not, if◌then◌else◌, inl, inr, Bool, true, false, List, [], ◌∷◌, length, take, drop, slice_index, refl, ap, sym, ◌∙◌, subst, arith, Option, None, Some}
+use Rattle.std.proofs.Common.{◌≡◌, ℕ, zero, suc, ◌+◌, ◌<◌, ◌⊎◌, ◌==◌, ◌&&◌, ◌||◌, not, inl, inr, Bool, true, false, List, [], ◌∷◌, length, take, drop, refl, ap, sym, ◌∙◌, subst, arith, Option, None, Some}
 use Rattle.std.proofs.Math.Path.{fun_ext}
 use Rattle.std.specs.List.{fold, list_all}
-use Rattle.std.specs.Option.{option_map, option_and_then}
 use Rattle.std.proofs.lemmas.Bool.{cases_lt}
 use Rattle.std.proofs.lemmas.Bool.Decides.{nat_tests}
 use Rattle.std.proofs.lemmas.List.{get_or-drop, length-drop}
@@ -10,9 +9,8 @@ use Rattle.std.proofs.lemmas.Option.{get_or_from_slice_get}
 use Rattle.spirv_model.specs.declared.module.Inst.{Inst}
 use Rattle.spirv_model.specs.declared.module.Words.{Words}
 use Rattle.spirv_model.specs.declared.op.TheConstants as op
-use Rattle.spirv_model.specs.Operands.{word_at, entry_of, class_of, result}
+use Rattle.spirv_model.specs.Operands.{entry_of, class_of, result}
 use Rattle.body_model.specs.Classes.{is_module_level}
-use Rattle.body_model.specs.Grammar.{Derives}
 use Rattle.valid_model.specs.Definitions.{gives, definition, inst_at, no_instruction}
 use Rattle.valid_model.specs.Meanings.{meaning, known_before}
 use Rattle.check_model.specs.Typing.{type_id}
@@ -30,12 +28,12 @@ use Rattle.typed_model.proofs.TypedSteps.{gives_at}
 use Rattle.typed_model.proofs.ValidTypes.{defined_within}
 use Rattle.unit_model.specs.ConstantScalars.{is_spec_class, is_specialization, is_specialized}
 use Rattle.change_model.specs.Folding.{function_at}
-use Rattle.change_model.specs.Plans.{Plan, changed}
+use Rattle.change_model.specs.Plans.{changed}
 use Rattle.change_model.specs.Settling.{is_plain_constant_class}
 use Rattle.change_model.proofs.ChangedDefinitions.{level_defined, written_there}
 use Rattle.change_model.proofs.ChangedEntry.{function_new, first_op, first_within, function_written}
 use Rattle.change_model.proofs.ChangedMeanings.{level_inst as level_inst_of}
-use Rattle.change_model.proofs.ChangedPlaces.{place_left, next_left, place_behind, rises, rises_behind, front_left, kept_there, function_within, StoodAt, of_level, of_constant, of_function, stood_at}
+use Rattle.change_model.proofs.ChangedPlaces.{place_left, next_left, place_behind, rises, front_left, kept_there, function_within, StoodAt, of_level, of_constant, of_function, stood_at}
 use Rattle.change_model.proofs.ConstantOperands.{first_values}
 use Rattle.change_model.proofs.FoldedKeeps.{function_op}
 use Rattle.change_model.proofs.FoldedOperations.{IsAlone, function_alone}
@@ -45,7 +43,6 @@ use Rattle.change_model.proofs.NewConstants.{new_is_plain}
 use Rattle.change_model.proofs.Pieces.{got_within}
 use Rattle.change_model.proofs.Planned.{Planned, is_new_constant}
 use Rattle.change_model.proofs.PlanRunsLevel.{made_words}
-use Rattle.change_model.proofs.PlanRunsNames.{place_on}
 use Rattle.change_model.proofs.RenamedWords.{kept_result}
 use Rattle.change_model.proofs.SettledValues.{only_there, by_parts, values_stay}
 

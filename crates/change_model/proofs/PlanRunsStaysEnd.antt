@@ -1,7 +1,6 @@
 -- Terminators that stay: both sides go to the same block, or end alike.
-use Rattle.std.proofs.Common.{◌≡◌, ℕ, zero, suc, ◌+◌, ◌<◌, ◌≤◌, ◌==◌, ◌||◌, ◌%◌, Bool, true, false, if◌then◌else◌, List, [], ◌∷◌, length, drop, slice_index, refl, ap, sym, ◌∙◌, subst, arith, Option, None, Some, is_some}
-use Rattle.std.specs.List.{list_any}
-use Rattle.std.specs.Option.{option_map, option_and_then}
+use Rattle.std.proofs.Common.{◌≡◌, ℕ, ◌+◌, ◌<◌, ◌≤◌, ◌==◌, ◌%◌, Bool, true, false, if◌then◌else◌, List, [], ◌∷◌, length, drop, slice_index, refl, ap, sym, ◌∙◌, arith, None, Some, is_some}
+use Rattle.std.specs.Option.{option_map}
 use Rattle.std.proofs.lemmas.Bool.Decides.{nat_tests}
 use Rattle.spirv_model.specs.declared.module.Inst.{Inst}
 use Rattle.spirv_model.specs.declared.module.Words.{Words}
@@ -12,28 +11,22 @@ use Rattle.spirv_model.specs.Operands.{word_at, words_from, entry_of, class_of, 
 use Rattle.body_model.specs.Classes.{is_terminator}
 use Rattle.body_model.specs.Switches.{is_among}
 use Rattle.body_model.specs.Targets.{targets}
-use Rattle.valid_model.specs.Definitions.{definition, inst_at}
+use Rattle.valid_model.specs.Definitions.{inst_at}
 use Rattle.check_model.specs.Validity.{IsValidList}
-use Rattle.check_model.specs.Visibility.{used_ids}
-use Rattle.stage_model.specs.declared.outcome.Kind.{Kind}
 use Rattle.stage_model.specs.Value.{Value, Truth, Word}
-use Rattle.stage_model.specs.Program.{Program, program_of}
-use Rattle.stage_model.specs.Start.{Values, Memory, all_values}
-use Rattle.stage_model.specs.Effect.{Effect, Goes as GoesTo, Stops, read_ids, effect_of, target_for}
-use Rattle.stage_model.specs.Machine.{State, Flow, To, Stopped, counted, Machine, Ends, read_values, done, led, step}
+use Rattle.stage_model.specs.Program.{Program}
+use Rattle.stage_model.specs.Effect.{read_ids, effect_of, target_for}
+use Rattle.stage_model.specs.Machine.{State, To, counted, read_values, done}
 use Rattle.typed_model.proofs.EffectsRun.{instruction}
 use Rattle.typed_model.proofs.FunctionRuns.{function_within}
 use Rattle.typed_model.proofs.LabelsBefore.{stands_there}
 use Rattle.typed_model.proofs.PlainRuns.{at_op}
-use Rattle.typed_model.proofs.RunningSteps.{LabelThere, label_there}
+use Rattle.typed_model.proofs.RunningSteps.{label_there}
 use Rattle.typed_model.proofs.ValidFunctions.{lands}
-use Rattle.change_model.specs.declared.fate.Fate.{Fate}
-use Rattle.change_model.specs.declared.fate.Fate.TheVariants.{Stays, Resolves}
-use Rattle.change_model.specs.Following.{Round}
+use Rattle.change_model.specs.declared.fate.Fate.TheVariants.{Resolves}
 use Rattle.change_model.specs.Plans.{Plan, renamed_words, kept_at}
-use Rattle.change_model.specs.PlanRules.{IsPlan, is_user}
-use Rattle.change_model.proofs.PlanRuns.{IsSetting, AreBeside}
-use Rattle.change_model.proofs.PlanRunsNames.{in_function, fits_as, own_name}
+use Rattle.change_model.specs.PlanRules.{IsPlan}
+use Rattle.change_model.proofs.PlanRunsNames.{fits_as, own_name}
 use Rattle.change_model.proofs.PlanRunsValues.{own_defined}
 
 same : (a b : ℕ) → a == b ≡ true → a ≡ b

@@ -1,5 +1,5 @@
 -- Both sides at a terminator that stays.
-use Rattle.std.proofs.Common.{◌≡◌, ℕ, suc, ◌+◌, ◌<◌, ◌≤◌, ◌==◌, ◌||◌, ◌%◌, Bool, true, false, if◌then◌else◌, List, [], ◌∷◌, length, drop, slice_index, refl, ap, sym, ◌∙◌, subst, arith, Option, None, Some, is_some}
+use Rattle.std.proofs.Common.{◌≡◌, ℕ, ◌==◌, ◌||◌, ◌%◌, Bool, true, false, if◌then◌else◌, List, [], ◌∷◌, length, slice_index, refl, ap, sym, ◌∙◌, subst, arith, Option, None, Some, is_some}
 use Rattle.std.specs.List.{list_any}
 use Rattle.std.specs.Option.{option_map, option_and_then}
 use Rattle.std.proofs.lemmas.Bool.Decides.{nat_tests}
@@ -12,7 +12,7 @@ use Rattle.spirv_model.specs.Operands.{word_at, words_from, entry_of, class_of, 
 use Rattle.body_model.specs.Classes.{is_terminator}
 use Rattle.body_model.specs.Switches.{is_among}
 use Rattle.body_model.specs.Targets.{targets}
-use Rattle.valid_model.specs.Definitions.{definition, inst_at}
+use Rattle.valid_model.specs.Definitions.{inst_at}
 use Rattle.check_model.specs.Validity.{IsValidList}
 use Rattle.check_model.specs.Visibility.{used_ids}
 use Rattle.stage_model.specs.declared.outcome.Kind.{Kind}
@@ -21,7 +21,7 @@ use Rattle.stage_model.specs.Value.{Value, Truth, Word, Composite, Pointer, Outs
 use Rattle.stage_model.specs.Program.{Program, program_of}
 use Rattle.stage_model.specs.Start.{Values, Memory, all_values}
 use Rattle.stage_model.specs.Effect.{Effect, Goes as GoesTo, Stops, read_ids, effect_of, target_for}
-use Rattle.stage_model.specs.Machine.{State, Flow, To, Stopped, counted, Machine, Step, Ends, after_effect, read_from, read_values, done, led, step}
+use Rattle.stage_model.specs.Machine.{State, To, Stopped, counted, Machine, after_effect, read_values, done, led, step}
 use Rattle.stage_model.specs.Steps.{stays}
 use Rattle.stage_model.proofs.Flows.{Suits, effect_suits}
 use Rattle.typed_model.proofs.BlockParts.{another}
@@ -34,7 +34,7 @@ use Rattle.typed_model.proofs.ValidModules.{valid_sound}
 use Rattle.change_model.specs.declared.fate.Fate.{Fate}
 use Rattle.change_model.specs.declared.fate.Fate.TheVariants.{Stays}
 use Rattle.change_model.specs.Following.{Round, ends}
-use Rattle.change_model.specs.Plans.{Plan, targets_left, kept_at, written_at}
+use Rattle.change_model.specs.Plans.{Plan, targets_left, kept_at}
 use Rattle.change_model.specs.PlanRules.{is_user}
 use Rattle.change_model.proofs.MachineSteps.{step_is, running_step}
 use Rattle.change_model.proofs.PlanRuns.{LeftBy, IsSetting, AreBeside}

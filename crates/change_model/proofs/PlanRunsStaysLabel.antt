@@ -1,42 +1,38 @@
 -- An OpLabel that stays: both sides enter its block.
-use Rattle.std.proofs.Common.{◌≡◌, ℕ, ◌+◌, ◌<◌, ◌≤◌, ◌==◌, inl, inr, Bool, true, false, if◌then◌else◌, List, [], ◌∷◌, length, take, slice_index, refl, ap, sym, ◌∙◌, subst, arith, Option, None, Some}
+use Rattle.std.proofs.Common.{◌≡◌, ℕ, ◌+◌, ◌<◌, ◌==◌, inl, inr, Bool, true, false, if◌then◌else◌, List, [], ◌∷◌, length, refl, ap, sym, ◌∙◌, arith, Option, None, Some}
 use Rattle.std.specs.Prelude.{slice_get}
 use Rattle.std.proofs.lemmas.Bool.Decides.{nat_tests}
 use Rattle.spirv_model.specs.declared.module.Inst.{Inst}
 use Rattle.spirv_model.specs.declared.module.Words.{Words}
 use Rattle.spirv_model.specs.declared.op.TheConstants as op
-use Rattle.spirv_model.specs.Operands.{word_at, entry_of, class_of, kinds, result}
+use Rattle.spirv_model.specs.Operands.{word_at, entry_of, class_of, kinds}
 use Rattle.body_model.specs.Classes.{is_terminator}
 use Rattle.body_model.proofs.ClassFacts.{straight_label}
 use Rattle.valid_model.specs.Definitions.{definition, inst_at}
-use Rattle.valid_model.specs.Meanings.{meaning}
-use Rattle.check_model.specs.Intervals.{intervals_of, is_visible}
-use Rattle.check_model.specs.Typing.{type_id}
+use Rattle.check_model.specs.Intervals.{intervals_of}
 use Rattle.check_model.specs.Validity.{IsValidList}
 use Rattle.stage_model.specs.Value.{Value}
 use Rattle.stage_model.specs.Program.{Program, program_of}
 use Rattle.stage_model.specs.Start.{Values}
-use Rattle.stage_model.specs.Effect.{Effect, Enters, read_ids, effect_of}
-use Rattle.stage_model.specs.Machine.{State, Next, Machine, GoesOn, counted, after_effect, read_values, done, led, step}
+use Rattle.stage_model.specs.Effect.{read_ids, effect_of}
+use Rattle.stage_model.specs.Machine.{State, Next, Machine, GoesOn, counted, read_values, done, step}
 use Rattle.stage_model.specs.Steps.{stays}
 use Rattle.stage_model.specs.Leads.{machine}
 use Rattle.stage_model.proofs.Comings.{one_step}
-use Rattle.typed_model.specs.Judgement.{HasValue, AreTyped}
+use Rattle.typed_model.specs.Judgement.{AreTyped}
 use Rattle.typed_model.proofs.BlockParts.{clash}
 use Rattle.typed_model.proofs.EffectsRun.{instruction}
 use Rattle.typed_model.proofs.FunctionRuns.{function_within}
 use Rattle.typed_model.proofs.KeptSteps.{label_kept}
 use Rattle.typed_model.proofs.LabelsBefore.{stands_there}
 use Rattle.typed_model.proofs.PlainRuns.{at_op}
-use Rattle.typed_model.proofs.RunningDoes.{here_does}
 use Rattle.typed_model.proofs.RunningSteps.{same_insts}
 use Rattle.typed_model.proofs.TypedSteps.{seen}
 use Rattle.typed_model.proofs.ValidTypes.{keeps_rules}
 use Rattle.change_model.specs.declared.fate.Fate.TheVariants.{Stays}
-use Rattle.change_model.specs.Following.{AgreeOn, Round, returns}
-use Rattle.change_model.specs.Plans.{Plan, is_dead, kept_at}
-use Rattle.change_model.proofs.ChangedPlaces.{place_left}
-use Rattle.change_model.proofs.MachineSteps.{step_is, done_by_reads, running_step}
+use Rattle.change_model.specs.Following.{Round, returns}
+use Rattle.change_model.specs.Plans.{Plan, kept_at}
+use Rattle.change_model.proofs.MachineSteps.{step_is}
 use Rattle.change_model.proofs.PlanRuns.{LeftBy, IsSeen, IsSetting, AreBeside}
 use Rattle.change_model.proofs.PlanRunsBehind.{behind_inst, alive_behind, alive_on, entered_on}
 use Rattle.change_model.proofs.PlanRunsJumps.{written_there}

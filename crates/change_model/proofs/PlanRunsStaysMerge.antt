@@ -1,12 +1,10 @@
 -- Merge instructions and variables that stay.
-use Rattle.std.proofs.Common.{◌≡◌, ℕ, ◌+◌, ◌<◌, ◌≤◌, ◌==◌, Bool, true, false, List, [], ◌∷◌, ◌++◌, slice_index, refl, ap, sym, ◌∙◌, subst, arith, Option, None, Some}
-use Rattle.std.specs.Option.{option_map}
+use Rattle.std.proofs.Common.{◌≡◌, ℕ, ◌==◌, true, List, [], ◌∷◌, slice_index, refl, ap, ◌∙◌, arith, Option, Some}
 use Rattle.std.proofs.lemmas.Bool.Decides.{nat_tests}
 use Rattle.spirv_model.specs.declared.module.Inst.{Inst}
 use Rattle.spirv_model.specs.declared.module.Words.{Words}
-use Rattle.spirv_model.specs.declared.table.Operand.{Operand}
 use Rattle.spirv_model.specs.declared.op.TheConstants as op
-use Rattle.spirv_model.specs.Operands.{word_at, entry_of, class_of, kinds, kinds_from, result}
+use Rattle.spirv_model.specs.Operands.{word_at, entry_of, class_of, kinds}
 use Rattle.body_model.specs.Classes.{is_terminator}
 use Rattle.body_model.proofs.ClassFacts.{straight_variable, straight_selection_merge, straight_loop_merge}
 use Rattle.valid_model.specs.Definitions.{inst_at}
@@ -15,15 +13,15 @@ use Rattle.stage_model.specs.Value.{Value, Pointer}
 use Rattle.stage_model.specs.Program.{Program, program_of}
 use Rattle.stage_model.specs.Start.{Values, Memory, with_value}
 use Rattle.stage_model.specs.Effect.{Effect, Passes, Gives, read_ids, effect_of}
-use Rattle.stage_model.specs.Machine.{State, Next, Machine, counted, after_effect, read_values, done}
+use Rattle.stage_model.specs.Machine.{State, Next, Machine, counted, read_values, done}
 use Rattle.typed_model.proofs.EffectsRun.{instruction}
 use Rattle.typed_model.proofs.PlainRuns.{at_op}
 use Rattle.typed_model.proofs.RunningDoes.{here_does}
 use Rattle.change_model.specs.declared.fate.Fate.TheVariants.{Stays}
 use Rattle.change_model.specs.Following.{Round}
-use Rattle.change_model.specs.Plans.{Plan, renamed_words, renamed_by, kept_at}
+use Rattle.change_model.specs.Plans.{Plan, renamed_by, kept_at}
 use Rattle.change_model.proofs.PlanRuns.{LeftBy, IsSetting, AreBeside}
-use Rattle.change_model.proofs.PlanRunsKept.{Both, kept_given, kept_silent}
+use Rattle.change_model.proofs.PlanRunsKept.{kept_given, kept_silent}
 use Rattle.change_model.proofs.PlanRunsSilent.{selection_silent, loop_silent, none_unseen}
 
 same : (a b : ℕ) → a == b ≡ true → a ≡ b

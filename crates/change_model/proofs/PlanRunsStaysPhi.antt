@@ -1,23 +1,23 @@
 -- A phi that stays takes the value of the same id, under its name, by the pairs that are left.
-use Rattle.std.proofs.Common.{◌≡◌, ℕ, ◌+◌, ◌<◌, ◌≤◌, ◌==◌, ◌||◌, ◌&&◌, Bool, true, false, if◌then◌else◌, List, [], ◌∷◌, ◌++◌, take, drop, slice_index, refl, ap, sym, ◌∙◌, subst, arith, Option, None, Some, is_some}
+use Rattle.std.proofs.Common.{◌≡◌, ℕ, ◌==◌, ◌||◌, Bool, true, false, if◌then◌else◌, List, [], ◌∷◌, drop, refl, ap, ◌∙◌, arith, Some, is_some}
 use Rattle.std.specs.List.{list_any}
 use Rattle.std.specs.Option.{option_map, option_and_then}
 use Rattle.std.proofs.lemmas.Bool.Decides.{nat_tests}
 use Rattle.spirv_model.specs.declared.module.Inst.{Inst}
 use Rattle.spirv_model.specs.declared.module.Words.{Words}
 use Rattle.spirv_model.specs.declared.op.TheConstants as op
-use Rattle.spirv_model.specs.Operands.{word_at, words_from, entry_of, class_of, kinds}
+use Rattle.spirv_model.specs.Operands.{word_at, words_from, entry_of, kinds}
 use Rattle.body_model.specs.Classes.{is_terminator}
 use Rattle.body_model.proofs.ClassFacts.{straight_phi}
 use Rattle.body_model.specs.Switches.{is_among}
 use Rattle.valid_model.specs.Definitions.{inst_at}
 use Rattle.check_model.specs.Validity.{IsValidList}
-use Rattle.check_model.specs.Visibility.{Incoming, incoming_in, incoming, used_ids}
+use Rattle.check_model.specs.Visibility.{Incoming, incoming_in, used_ids}
 use Rattle.stage_model.specs.Value.{Value}
 use Rattle.stage_model.specs.Program.{Program, program_of}
 use Rattle.stage_model.specs.Start.{Values, all_values, with_value}
-use Rattle.stage_model.specs.Effect.{Effect, Gives, paired_with, read_ids, effect_of}
-use Rattle.stage_model.specs.Machine.{State, Flow, Next, Machine, counted, after_effect, read_values, done}
+use Rattle.stage_model.specs.Effect.{Gives, paired_with, read_ids}
+use Rattle.stage_model.specs.Machine.{State, Next, Machine, counted, read_values, done}
 use Rattle.typed_model.proofs.BlockParts.{another}
 use Rattle.typed_model.proofs.EffectsRun.{instruction}
 use Rattle.typed_model.proofs.FunctionRuns.{function_within}
@@ -25,8 +25,8 @@ use Rattle.typed_model.proofs.PlainRuns.{at_op}
 use Rattle.typed_model.proofs.ValidModules.{valid_sound}
 use Rattle.change_model.specs.declared.fate.Fate.TheVariants.{Stays}
 use Rattle.change_model.specs.Following.{Round}
-use Rattle.change_model.specs.Plans.{Plan, predecessors_left, block_at, pairs_left, phi_left, kept_at, written_at}
-use Rattle.change_model.specs.PlanRules.{is_incoming, is_user}
+use Rattle.change_model.specs.Plans.{Plan, predecessors_left, block_at, pairs_left, phi_left, kept_at}
+use Rattle.change_model.specs.PlanRules.{is_user}
 use Rattle.change_model.proofs.MachineSteps.{done_by_reads}
 use Rattle.change_model.proofs.PlanRuns.{LeftBy, IsSetting, AreBeside}
 use Rattle.change_model.proofs.PlanRunsKept.{used_left, kept_given}

@@ -1,5 +1,5 @@
 -- What holds of the old machine at each place: pointers lead into the variables that they are made from, and zero inputs stay zeros.
-use Rattle.std.proofs.Common.{◌≡◌, ℕ, ◌+◌, ◌<◌, ◌≤◌, ◌==◌, ◌||◌, nat_le, if◌then◌else◌, inl, inr, Bool, true, false, List, refl, ap, sym, ◌∙◌, subst, arith, Option, None, Some}
+use Rattle.std.proofs.Common.{◌≡◌, ℕ, ◌+◌, ◌==◌, ◌||◌, nat_le, if◌then◌else◌, inl, inr, Bool, true, false, List, refl, ap, sym, ◌∙◌, subst, arith, Option, None, Some}
 use Rattle.std.specs.Option.{option_map}
 use Rattle.std.proofs.lemmas.Bool.Decides.{nat_tests}
 use Rattle.limits.specs.declared.TheConstants.{BACK_EDGES}
@@ -10,7 +10,7 @@ use Rattle.spirv_model.specs.Operands.{word_at, result}
 use Rattle.body_model.specs.Classes.{is_terminator}
 use Rattle.body_model.specs.Switches.{is_among}
 use Rattle.body_model.specs.Targets.{targets}
-use Rattle.valid_model.specs.Definitions.{gives, definition, inst_at}
+use Rattle.valid_model.specs.Definitions.{definition, inst_at}
 use Rattle.valid_model.specs.Meanings.{meaning}
 use Rattle.check_model.specs.Intervals.{intervals_of, is_visible}
 use Rattle.check_model.specs.Typing.{type_id}
@@ -29,7 +29,7 @@ use Rattle.typed_model.proofs.FunctionRuns.{function_within}
 use Rattle.typed_model.proofs.LabelsBefore.{stands_there}
 use Rattle.typed_model.proofs.ResultIds.{terminator_result}
 use Rattle.typed_model.proofs.RunningDoes.{here_does}
-use Rattle.typed_model.proofs.TypedSteps.{gives_at, not_none, seen, visible_before, visible_jump}
+use Rattle.typed_model.proofs.TypedSteps.{seen, visible_before, visible_jump}
 use Rattle.typed_model.proofs.ValidFunctions.{lands}
 use Rattle.change_model.specs.PlanRules.{root_of}
 use Rattle.change_model.proofs.EffectKinds.{may_pass, DoesInner, does_inner, passes, gives as gives_one, writes, store_result}

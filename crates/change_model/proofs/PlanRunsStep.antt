@@ -1,10 +1,9 @@
 -- One step of the old machine is matched by one of the new one, or by none.
-use Rattle.std.proofs.Common.{◌≡◌, ℕ, ◌+◌, ◌<◌, ◌≤◌, Bool, true, false, List, refl, ap, sym, ◌∙◌, arith}
+use Rattle.std.proofs.Common.{◌≡◌, ℕ, ◌<◌, List, refl, ap, arith}
 use Rattle.spirv_model.specs.declared.module.Words.{Words}
 use Rattle.check_model.specs.Validity.{IsValidList}
 use Rattle.stage_model.specs.Program.{Program, program_of}
 use Rattle.stage_model.specs.Start.{Values}
-use Rattle.stage_model.specs.Machine.{Machine}
 use Rattle.typed_model.proofs.BlockParts.{clash}
 use Rattle.change_model.specs.declared.fate.Fate.{Fate}
 use Rattle.change_model.specs.declared.fate.Fate.TheVariants.{Dead, Stays, Goes, Picks, Folds, Nulls, Resolves, Skips, Unused}

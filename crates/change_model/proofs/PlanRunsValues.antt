@@ -3,15 +3,12 @@ use Rattle.std.proofs.Common.{◌≡◌, ℕ, ◌+◌, ◌<◌, ◌==◌, ◌⊎
 use Rattle.std.proofs.lemmas.Bool.Decides.{nat_tests}
 use Rattle.spirv_model.specs.declared.module.Words.{Words}
 use Rattle.spirv_model.specs.declared.module.Inst.{Inst}
-use Rattle.spirv_model.specs.Operands.{word_at, result}
-use Rattle.body_model.specs.Grammar.{Derives}
-use Rattle.valid_model.specs.Definitions.{definition, inst_at, has_result, gives}
-use Rattle.check_model.specs.Intervals.{Interval, intervals_of, is_visible}
+use Rattle.spirv_model.specs.Operands.{result}
+use Rattle.valid_model.specs.Definitions.{definition, inst_at, gives}
+use Rattle.check_model.specs.Intervals.{Interval}
 use Rattle.check_model.specs.Validity.{IsValidList}
 use Rattle.stage_model.specs.Value.{Value}
 use Rattle.stage_model.specs.Start.{Values, with_value}
-use Rattle.typed_model.proofs.BlockParts.{clash}
-use Rattle.typed_model.proofs.FunctionRuns.{function_within}
 use Rattle.typed_model.proofs.ModuleValues.{defined_at}
 use Rattle.typed_model.proofs.SilentSteps.{given_id}
 use Rattle.typed_model.proofs.TypedSteps.{gives_at, not_none, seen, visible_before}

@@ -1,31 +1,29 @@
 -- No store goes to an input: inputs that are zeros stay zeros.
-use Rattle.std.proofs.Common.{◌≡◌, ℕ, ◌+◌, ◌<◌, ◌≤◌, ◌==◌, ◌&&◌, ◌||◌, Bool, true, false, if◌then◌else◌, List, [], ◌∷◌, slice_index, refl, ap, sym, ◌∙◌, subst, arith, Option, None, Some}
+use Rattle.std.proofs.Common.{◌≡◌, ℕ, ◌<◌, ◌==◌, ◌&&◌, ◌||◌, Bool, true, false, if◌then◌else◌, List, refl, ap, sym, ◌∙◌, subst, arith, Option, Some}
 use Rattle.std.proofs.lemmas.Bool.Decides.{nat_tests}
 use Rattle.spirv_model.specs.declared.module.Inst.{Inst}
 use Rattle.spirv_model.specs.declared.module.Words.{Words}
 use Rattle.spirv_model.specs.declared.op.TheConstants as op
 use Rattle.spirv_model.specs.declared.storage_class.TheConstants as storage_class
 use Rattle.spirv_model.specs.declared.decoration.TheConstants.{LOCATION, BUILT_IN}
-use Rattle.spirv_model.specs.declared.class.Class.{Class}
 use Rattle.spirv_model.specs.declared.class.Class.TheVariants as class
 use Rattle.spirv_model.specs.Operands.{word_at, entry_of, class_of}
 use Rattle.body_model.specs.Classes.{is_plain}
-use Rattle.valid_model.specs.declared.meaning.Meaning.{Meaning}
-use Rattle.valid_model.specs.declared.meaning.Meaning.TheVariants.{Shape as OfShape, Variable}
+use Rattle.valid_model.specs.declared.meaning.Meaning.TheVariants.{Shape as OfShape}
 use Rattle.valid_model.specs.declared.meaning.Shape.TheVariants.{Pointer as PointerType}
 use Rattle.valid_model.specs.Definitions.{inst_at}
 use Rattle.valid_model.specs.DecorationWords.{decoration_of}
 use Rattle.valid_model.specs.Meanings.{meaning}
 use Rattle.check_model.specs.Intervals.{intervals_of}
 use Rattle.check_model.specs.MemoryOperands.{memory_operands_fit, store_fits}
-use Rattle.check_model.specs.Storage.{is_in_function, is_read_only, points_to_read_only, is_wrong_storage}
+use Rattle.check_model.specs.Storage.{is_read_only, points_to_read_only, is_wrong_storage}
 use Rattle.check_model.specs.Typing.{Typing, type_id, meaning_of, type_of, typing_of, constant_word}
 use Rattle.check_model.specs.Validity.{IsValidList, has_wrong_storage}
 use Rattle.stage_model.specs.Value.{Value, Pointer}
-use Rattle.stage_model.specs.Program.{Program, program_of}
+use Rattle.stage_model.specs.Program.{program_of}
 use Rattle.stage_model.specs.Start.{Values, Memory, all_values}
-use Rattle.stage_model.specs.Effect.{Effect, Passes, Gives, Writes, Enters, Goes, Stops, read_ids, with_words}
-use Rattle.stage_model.specs.Machine.{State, Machine, GoesOn, after_effect, read_from, step}
+use Rattle.stage_model.specs.Effect.{Effect, Passes, Gives, Writes, Enters, Goes, Stops, read_ids}
+use Rattle.stage_model.specs.Machine.{State, Machine, GoesOn, after_effect, step}
 use Rattle.typed_model.specs.Running.{IsRunning}
 use Rattle.typed_model.specs.Values.{PointsTo, IsPointer}
 use Rattle.typed_model.proofs.BlockParts.{clash}

@@ -1,6 +1,6 @@
 -- No output is left that nobody reads, where all those go that nothing that stays loads from.
-use Rattle.std.proofs.Common.{◌≡◌, ℕ, ◌<◌, ◌≤◌, ◌==◌, ◌⊎◌, ◌&&◌, not, inl, inr, Bool, true, false, List, [], length, refl, ap, sym, ◌∙◌, arith, Option, None, Some, is_some}
-use Rattle.std.proofs.lemmas.Bool.{cases_lt, eqb-true, eq-eqb}
+use Rattle.std.proofs.Common.{◌≡◌, ℕ, ◌<◌, ◌==◌, ◌&&◌, not, inl, inr, Bool, true, false, List, [], length, refl, ap, sym, ◌∙◌, arith, Option, None, Some, is_some}
+use Rattle.std.proofs.lemmas.Bool.{cases_lt, eqb-true}
 use Rattle.spirv_model.specs.declared.module.Inst.{Inst}
 use Rattle.spirv_model.specs.declared.module.Words.{Words}
 use Rattle.spirv_model.specs.declared.op.TheConstants as op
@@ -21,7 +21,7 @@ use Rattle.change_model.specs.Dropping.{dropped, dropped_words, MayDrop}
 use Rattle.change_model.specs.Plans.{Plan, changed}
 use Rattle.change_model.specs.PlanRules.{root_of}
 use Rattle.change_model.specs.Pruned.{slot_of}
-use Rattle.change_model.specs.Sweeping.{is_output_of, is_unread_at, is_read_output, IsLoadedFrom, IsSwept}
+use Rattle.change_model.specs.Sweeping.{is_output_of, is_unread_at, IsLoadedFrom, IsSwept}
 use Rattle.change_model.proofs.ChangedPrograms.{decorations_changed}
 use Rattle.change_model.proofs.ChangedVariables.{variable_behind, other_class}
 use Rattle.change_model.proofs.DroppedDecorations.{decoration_kept}
@@ -36,7 +36,7 @@ use Rattle.change_model.proofs.PlanRunsSetting.{planned}
 use Rattle.change_model.proofs.PlanRunsValues.{own_defined}
 use Rattle.change_model.proofs.SlotsThere.{all_three}
 use Rattle.change_model.proofs.SpecializedLeft.{all_at}
-use Rattle.change_model.proofs.SweptPlaces.{SweptTo, swept_to}
+use Rattle.change_model.proofs.SweptPlaces.{swept_to}
 use Rattle.change_model.proofs.SweptPlans.{swept_is_plan}
 use Rattle.change_model.proofs.SweptPruned.{swept_words, swept_valid}
 use Rattle.change_model.proofs.SweptRoots.{load_names, swept_root}

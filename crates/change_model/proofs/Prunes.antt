@@ -1,6 +1,5 @@
 -- What is swept, with what may go dropped, is pruned, and keeps no output that nobody reads.
-use Rattle.std.proofs.Common.{◌≡◌, ℕ, ◌⊎◌, ◌&&◌, not, inl, inr, Bool, true, false, List, [], refl, ap, sym, ◌∙◌, Option, None, Some, is_some}
-use Rattle.spirv_model.specs.declared.module.Inst.{Inst}
+use Rattle.std.proofs.Common.{◌≡◌, ℕ, ◌&&◌, not, inl, inr, Bool, true, [], refl, ap, sym, ◌∙◌, Option, None, Some}
 use Rattle.spirv_model.specs.declared.module.Words.{Words}
 use Rattle.spirv_model.specs.declared.decoration.TheConstants.{LOCATION}
 use Rattle.valid_model.specs.declared.meaning.IdFacts.{IdFacts}
@@ -15,10 +14,9 @@ use Rattle.check_model.specs.Validity.{IsValidList}
 use Rattle.stage_model.specs.Program.{program_of}
 use Rattle.typed_model.proofs.BlockParts.{clash}
 use Rattle.unit_model.specs.UsedInterface.{keeps_read_outputs}
-use Rattle.change_model.specs.declared.fate.Fate.TheVariants.{Stays}
 use Rattle.change_model.specs.Dropping.{dropped, dropped_words}
 use Rattle.change_model.specs.Plans.{Plan, changed}
-use Rattle.change_model.specs.Pruned.{slot_of, IsPruned}
+use Rattle.change_model.specs.Pruned.{IsPruned}
 use Rattle.change_model.specs.Sweeping.{is_output_of, is_unread_at, is_read_output, IsSwept, MayGo}
 use Rattle.change_model.proofs.ChangedDefinitions.{is_left, gone_defined, never_defined}
 use Rattle.change_model.proofs.ChangedPrograms.{decorations_changed}

@@ -1,5 +1,5 @@
 -- The same is visible in a function that stands behind another front, where the ids that it uses are defined before it as they were.
-use Rattle.std.proofs.Common.{◌≡◌, ℕ, zero, suc, ◌+◌, ◌-◌, ◌<◌, ◌≤◌, ◌==◌, ◌&&◌, ◌||◌, Bool, true, false, not, cond, if◌then◌else◌, List, [], ◌∷◌, ◌++◌, length, take, drop, drop-drop, map, refl, ap, sym, ◌∙◌, subst, arith, take-append-drop, Option, None, Some}
+use Rattle.std.proofs.Common.{◌≡◌, ℕ, suc, ◌+◌, ◌-◌, ◌<◌, ◌≤◌, ◌==◌, ◌&&◌, ◌||◌, Bool, true, false, if◌then◌else◌, List, [], ◌∷◌, ◌++◌, length, take, drop, drop-drop, map, refl, ap, sym, ◌∙◌, subst, arith, Option, None, Some}
 use Rattle.std.specs.Prelude.{filter}
 use Rattle.std.specs.Option.{option_map, unwrap_or}
 use Rattle.std.specs.List.{find, list_all, list_any}
@@ -15,11 +15,11 @@ use Rattle.body_model.proofs.ModuleLevels.{within_list}
 use Rattle.valid_model.specs.Definitions.{inst_at, no_instruction, definition, is_earlier}
 use Rattle.check_model.specs.Intervals.{Interval, intervals_of, is_visible}
 use Rattle.check_model.specs.Branches.{Block, blocks_from, blocks_of, leads_to, predecessors, is_labelled, block_end_of, label_behind}
-use Rattle.check_model.specs.Visibility.{Use, use_at, used_ids, Incoming, incoming, incoming_blocks, are_those, names_predecessors, incoming_use, phi_uses, is_defined_for, is_visible_use, not_visible}
+use Rattle.check_model.specs.Visibility.{use_at, used_ids, Incoming, incoming, incoming_blocks, are_those, names_predecessors, incoming_use, phi_uses, is_defined_for, is_visible_use, not_visible}
 use Rattle.typed_model.proofs.BlockParts.{another}
 use Rattle.typed_model.proofs.ValidFunctions.{front_of}
 use Rattle.change_model.proofs.LaterIntervals.{later, intervals_later, visible_later}
-use Rattle.change_model.proofs.SettledBlocks.{old_level, with_phi, names_by}
+use Rattle.change_model.proofs.SettledBlocks.{old_level, names_by}
 use Rattle.change_model.proofs.SettledUses.{blocks_later, blocks_behind, block_later, filter_later, find_later, NoEarlier, ends_behind}
 use Rattle.change_model.proofs.SettledVisible.{definition_behind, seen_later}
 use Rattle.change_model.proofs.VisibleUses.{all_mapped, phi_seen, others_seen, phi_unseen, others_unseen}

@@ -3,7 +3,7 @@ use Rattle.std.proofs.Common.{◌≡◌, ℕ, zero, suc, ◌+◌, ◌<◌, ◌�
 use Rattle.limits.specs.declared.TheConstants.{MODULE_WORDS}
 use Rattle.spirv_model.specs.declared.module.Inst.{Inst}
 use Rattle.spirv_model.specs.declared.module.Words.{Words}
-use Rattle.spirv_model.specs.Module.{IsWritable, module_words}
+use Rattle.spirv_model.specs.Module.{IsWritable}
 use Rattle.change_model.proofs.FoldedWords.{size, size_more, whole_size}
 
 one_shorter : (insts : List Inst) (k : ℕ) (d : Inst) → k < length insts → length (slice_index_or insts k d).words + 1 ≤ size insts

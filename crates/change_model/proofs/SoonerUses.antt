@@ -1,5 +1,5 @@
 -- What an instruction of a valid module reads to fold, to branch or to name a phi is defined before it.
-use Rattle.std.proofs.Common.{◌≡◌, ℕ, suc, ◌+◌, ◌-◌, ◌<◌, Bool, true, false, ◌==◌, ◌&&◌, nat_lt, if◌then◌else◌, List, [], ◌∷◌, length, map, filter, drop, refl, ap, sym, ◌∙◌, arith, is_some, Option, None, Some, subst}
+use Rattle.std.proofs.Common.{◌≡◌, ℕ, ◌<◌, Bool, true, false, ◌==◌, nat_lt, if◌then◌else◌, List, [], ◌∷◌, length, map, drop, refl, ap, sym, ◌∙◌, arith, Option, None, Some, subst}
 use Rattle.std.specs.List.{list_all}
 use Rattle.std.specs.Option.{unwrap_or}
 use Rattle.std.proofs.lemmas.Bool.{eqb-true, ltb-true}
@@ -8,14 +8,13 @@ use Rattle.spirv_model.specs.declared.module.Inst.{Inst}
 use Rattle.spirv_model.specs.declared.module.Words.{Words}
 use Rattle.spirv_model.specs.declared.class.Class.{Class}
 use Rattle.spirv_model.specs.declared.class.Class.TheVariants as class
-use Rattle.spirv_model.specs.declared.class.ScalarClass.{ScalarClass}
 use Rattle.spirv_model.specs.declared.op.TheConstants as op
 use Rattle.spirv_model.specs.declared.table.Operand.{Operand}
 use Rattle.spirv_model.specs.declared.table.Operand.TheVariants.{IdRef, IdResult, IdResultType}
 use Rattle.spirv_model.specs.Operands.{word_at, words_from, class_of, kinds, entry_of}
 use Rattle.valid_model.specs.Definitions.{definition, inst_at}
 use Rattle.check_model.specs.Branches.{block_end_of}
-use Rattle.check_model.specs.Intervals.{Interval, intervals_of}
+use Rattle.check_model.specs.Intervals.{intervals_of}
 use Rattle.check_model.specs.Validity.{IsValidList}
 use Rattle.check_model.specs.Visibility.{Incoming, incoming, incoming_use, is_choice, is_defined_for, is_visible_use, used_among, used_by, used_ids, use_at, uses_operands}
 use Rattle.unit_model.specs.ConstantScalars.{is_scalar_class}

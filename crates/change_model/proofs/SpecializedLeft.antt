@@ -1,5 +1,5 @@
 -- The list that a plan makes has no specialization constants where the old one has none.
-use Rattle.std.proofs.Common.{◌≡◌, ℕ, zero, suc, ◌<◌, ◌==◌, ◌&&◌, ◌||◌, inl, inr, Bool, true, false, not, List, [], ◌∷◌, length, refl, ap, sym, ◌∙◌, arith, Option, None, Some}
+use Rattle.std.proofs.Common.{◌≡◌, ℕ, zero, suc, ◌<◌, ◌==◌, ◌&&◌, ◌||◌, inl, inr, Bool, true, false, not, List, [], ◌∷◌, length, refl, ap, ◌∙◌, arith, Option, None, Some}
 use Rattle.std.specs.List.{list_all}
 use Rattle.std.proofs.lemmas.Bool.{cases_lt}
 use Rattle.basics.proofs.Bools.{first_of_both, second_of_both}
@@ -14,7 +14,6 @@ use Rattle.typed_model.proofs.BlockParts.{clash}
 use Rattle.unit_model.specs.ConstantScalars.{is_specialization, is_specialized, is_spec_class}
 use Rattle.change_model.specs.Folding.{function_at}
 use Rattle.change_model.specs.Plans.{changed}
-use Rattle.change_model.specs.Settling.{is_plain_constant_class}
 use Rattle.change_model.proofs.BehindLevel.{FailsInFunction, FailsOnConstants, fails_new}
 use Rattle.change_model.proofs.ChangedMeanings.{level_inst}
 use Rattle.change_model.proofs.ChangedPlaces.{function_within}

@@ -1,5 +1,5 @@
 -- What may go with what is swept may be dropped from the swept module.
-use Rattle.std.proofs.Common.{◌≡◌, ℕ, ◌+◌, ◌<◌, ◌≤◌, ◌==◌, ◌⊎◌, inl, inr, Bool, true, false, List, [], length, refl, ap, sym, ◌∙◌, arith, Option, Some}
+use Rattle.std.proofs.Common.{◌≡◌, ℕ, ◌+◌, ◌<◌, ◌==◌, inl, inr, Bool, true, false, List, [], length, refl, ap, sym, ◌∙◌, arith}
 use Rattle.std.specs.List.{list_any}
 use Rattle.std.proofs.lemmas.Bool.{cases_lt}
 use Rattle.std.proofs.lemmas.List.{get_or_past}
@@ -7,13 +7,10 @@ use Rattle.spirv_model.specs.declared.module.Inst.{Inst}
 use Rattle.spirv_model.specs.declared.module.Words.{Words}
 use Rattle.spirv_model.specs.declared.op.TheConstants as op
 use Rattle.spirv_model.specs.Operands.{entry_of, kinds, ids}
-use Rattle.valid_model.specs.declared.meaning.Meaning.{Meaning}
-use Rattle.valid_model.specs.Definitions.{definition, inst_at, no_instruction}
-use Rattle.valid_model.specs.Meanings.{meaning}
+use Rattle.valid_model.specs.Definitions.{inst_at, no_instruction}
 use Rattle.body_model.proofs.ModuleLevels.{within_list}
 use Rattle.check_model.specs.Validity.{IsValidList}
 use Rattle.stage_model.specs.Program.{program_of}
-use Rattle.change_model.specs.declared.fate.Fate.TheVariants.{Stays}
 use Rattle.change_model.specs.Dropping.{is_dropped, IsOfLevel, MayDrop}
 use Rattle.change_model.specs.Folding.{function_at}
 use Rattle.change_model.specs.Plans.{Plan, changed}
@@ -25,7 +22,7 @@ use Rattle.change_model.proofs.FoldedKeeps.{function_op}
 use Rattle.change_model.proofs.FunctionPlaces.{behind_function}
 use Rattle.change_model.proofs.MovedUp.{function_is}
 use Rattle.change_model.proofs.PlanRunsSetting.{planned, leaves_program}
-use Rattle.change_model.proofs.SweptPlaces.{SweptFrom, swept_from, new_behind, place_in_function, first_left, first_new, first_new_within, first_stays, first_within, got_there, kept_at_left}
+use Rattle.change_model.proofs.SweptPlaces.{swept_from, new_behind, place_in_function, first_left, first_new, first_new_within, first_stays, first_within, got_there, kept_at_left}
 use Rattle.change_model.proofs.SweptPlans.{swept_is_plan}
 use Rattle.change_model.proofs.SweptPruned.{swept_words, swept_valid}
 

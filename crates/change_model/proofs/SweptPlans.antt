@@ -1,5 +1,5 @@
 -- A plan by which nothing stays but what something with an effect needs may be carried out.
-use Rattle.std.proofs.Common.{◌≡◌, ℕ, suc, ◌+◌, ◌<◌, ◌≤◌, ◌⊎◌, inl, inr, Bool, true, false, ◌==◌, ◌||◌, ◌&&◌, if◌then◌else◌, List, [], ◌∷◌, length, refl, ap, sym, ◌∙◌, subst, arith, Option, None, Some, is_some}
+use Rattle.std.proofs.Common.{◌≡◌, ℕ, suc, ◌+◌, ◌<◌, ◌≤◌, ◌⊎◌, inl, inr, Bool, true, false, ◌==◌, ◌||◌, ◌&&◌, if◌then◌else◌, List, [], ◌∷◌, length, refl, ap, sym, ◌∙◌, subst, arith, Some}
 use Rattle.std.specs.List.{list_all, list_any, range_with_len}
 use Rattle.std.proofs.lemmas.Bool.{cases_lt, eq-eqb, eqb-true}
 use Rattle.std.proofs.lemmas.List.{get_or_past}
@@ -7,13 +7,13 @@ use Rattle.basics.proofs.Bools.{first_of_both, second_of_both}
 use Rattle.spirv_model.specs.declared.module.Inst.{Inst}
 use Rattle.spirv_model.specs.declared.module.Words.{Words}
 use Rattle.spirv_model.specs.declared.op.TheConstants as op
-use Rattle.spirv_model.specs.Operands.{word_at, words_from, entry_of, class_of, ids, kinds, result}
+use Rattle.spirv_model.specs.Operands.{word_at, words_from, entry_of, class_of, ids}
 use Rattle.body_model.specs.Switches.{is_among}
 use Rattle.body_model.specs.Targets.{targets}
 use Rattle.valid_model.specs.Definitions.{definition, inst_at, no_instruction}
-use Rattle.check_model.specs.Intervals.{is_visible, intervals_of}
+use Rattle.check_model.specs.Intervals.{intervals_of}
 use Rattle.check_model.specs.Validity.{IsValidList}
-use Rattle.check_model.specs.Visibility.{Incoming, incoming_in, incoming, used_ids, use_at, is_defined_for, is_visible_use}
+use Rattle.check_model.specs.Visibility.{incoming_in, incoming, used_ids, use_at, is_defined_for, is_visible_use}
 use Rattle.typed_model.proofs.FunctionRuns.{function_within}
 use Rattle.typed_model.proofs.EffectsRun.{instruction}
 use Rattle.typed_model.proofs.PlainRuns.{at_op}
@@ -25,12 +25,12 @@ use Rattle.change_model.specs.declared.fate.Fate.{Fate}
 use Rattle.change_model.specs.declared.fate.Fate.TheVariants as fate
 use Rattle.change_model.specs.Plans.{Plan, is_dead, targets_left, leads_from, predecessors_left, block_at, phi_left, kept_at, written_as, written_at}
 use Rattle.change_model.specs.PlanRules.{root_of, merge_labels, still_names, stays, goes, lets_phis, may_keep_phis, is_incoming, is_user, MayStay, MayBeUnused, result_of, store, FateFits, IsEnteredRightly, IsUsedNowhere, IsPlan}
-use Rattle.change_model.specs.Sweeping.{is_sweepable, IsLoadedFrom, IsSweptOut, result_of as swept_result, store as swept_store, IsSwept}
+use Rattle.change_model.specs.Sweeping.{is_sweepable, IsSweptOut, result_of as swept_result, store as swept_store, IsSwept}
 use Rattle.change_model.proofs.AlikeEnds.{left_behind}
 use Rattle.change_model.proofs.BehindLevel.{end_op}
-use Rattle.change_model.proofs.BlockEntries.{SelectionTo, SwitchTo, Entry, by_one, by_selection, by_switch, merged_by}
-use Rattle.change_model.proofs.ConditionNames.{NamedIn, inside_at, old_select, select_way, old_pick, pick_way}
-use Rattle.change_model.proofs.FoundUses.{IsUsedAs, renamed_as, IsPairOf, comes_from, pair_of, either, phi_inside, stands_inside}
+use Rattle.change_model.proofs.BlockEntries.{Entry, by_one, by_selection, by_switch, merged_by}
+use Rattle.change_model.proofs.ConditionNames.{inside_at, old_select, select_way, old_pick, pick_way}
+use Rattle.change_model.proofs.FoundUses.{IsUsedAs, renamed_as, comes_from, pair_of, either, phi_inside, stands_inside}
 use Rattle.change_model.proofs.FoundMisfits.{phi_uses_none, nothing_unused}
 use Rattle.change_model.proofs.LeftBlockNames.{inner_isnt, inst_there}
 use Rattle.change_model.proofs.LeftChosen.{any_of_range}

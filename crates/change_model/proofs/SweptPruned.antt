@@ -9,7 +9,7 @@ use Rattle.state_model.specs.declared.iface.Iface.{Iface}
 use Rattle.valid_model.specs.ModuleFacts.{facts_of}
 use Rattle.check_model.specs.Interfaces.{slot_at, outputs_of}
 use Rattle.check_model.specs.Validity.{IsValidList}
-use Rattle.stage_model.specs.Stage.{Outcome, stage}
+use Rattle.stage_model.specs.Stage.{Outcome}
 use Rattle.change_model.specs.Dropping.{dropped, dropped_words, MayDrop}
 use Rattle.change_model.specs.Keeping.{IsKeptBut, KeepsOutcomeBut, HasInterfaceOf}
 use Rattle.change_model.specs.Plans.{Plan, changed}

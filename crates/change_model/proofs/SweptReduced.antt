@@ -1,17 +1,12 @@
 -- Nothing comes to be known where what isn't needed is swept out.
-use Rattle.std.proofs.Common.{◌≡◌, ℕ, zero, suc, ◌+◌, ◌-◌, ◌<◌, ◌≤◌, ◌⊎◌, ◌==◌, ◌&&◌, ◌||◌, not, nat_lt, nat_le, if◌then◌else◌, inl, inr, Bool, true, false, List, [], ◌∷◌, length, map, filter, refl, ap, sym, ◌∙◌, subst, arith, Option, None, Some, is_some}
-use Rattle.std.specs.List.{list_all, list_any, range_with_len}
+use Rattle.std.proofs.Common.{◌≡◌, ℕ, ◌<◌, ◌&&◌, not, inl, inr, Bool, true, false, List, [], ◌∷◌, length, refl, ap, sym, ◌∙◌, arith, Option, None, Some, is_some}
+use Rattle.std.specs.List.{list_all}
 use Rattle.std.specs.Option.{option_and_then}
-use Rattle.std.proofs.lemmas.Bool.{cases_lt, eqb-true, eq-eqb}
-use Rattle.std.proofs.lemmas.Bool.Decides.{nat_tests}
+use Rattle.std.proofs.lemmas.Bool.{cases_lt}
 use Rattle.spirv_model.specs.declared.module.Inst.{Inst}
 use Rattle.spirv_model.specs.declared.module.Words.{Words}
-use Rattle.spirv_model.specs.declared.op.TheConstants as op
-use Rattle.spirv_model.specs.Operands.{word_at, words_from, entry_of, class_of, ids}
+use Rattle.spirv_model.specs.Operands.{word_at, words_from, class_of, ids}
 use Rattle.scalar_model.specs.declared.scalar_value.Scalar.{Scalar}
-use Rattle.body_model.specs.Grammar.{Derives}
-use Rattle.body_model.specs.Switches.{is_among}
-use Rattle.body_model.specs.Targets.{targets_by, targets}
 use Rattle.spirv_model.specs.declared.decoration.TheConstants.{LOCATION}
 use Rattle.state_model.specs.declared.iface.Iface.{Iface}
 use Rattle.stage_model.specs.Program.{program_of}
@@ -22,35 +17,29 @@ use Rattle.valid_model.specs.Knowledge.{meaning_in}
 use Rattle.valid_model.proofs.KnownIds.{unknown_without_definition}
 use Rattle.valid_model.specs.Definitions.{definition, inst_at, no_instruction}
 use Rattle.valid_model.specs.Meanings.{meaning}
-use Rattle.check_model.specs.Intervals.{Interval, intervals_of}
 use Rattle.check_model.specs.Storage.{is_in_function}
 use Rattle.check_model.specs.Validity.{IsValidList}
-use Rattle.check_model.proofs.CodeIntervals.{one_intervals}
 use Rattle.std.proofs.lemmas.Option.{get_or_from_slice_get}
-use Rattle.typed_model.proofs.BlockParts.{another, clash}
+use Rattle.typed_model.proofs.BlockParts.{clash}
 use Rattle.typed_model.proofs.ValidTypes.{defined_within}
 use Rattle.unit_model.specs.ConstantScalars.{function_places, is_specialized, null_scalar, scalar_by, constant_scalar, is_constant_scalar, is_scalar_class, is_foldable, is_folded}
 use Rattle.unit_model.specs.UsedInterface.{has_slot, is_input, is_unfed, names_fed_inputs}
-use Rattle.change_model.specs.declared.fate.Fate.TheVariants.{Stays, Unused}
 use Rattle.change_model.specs.Folding.{function_at}
 use Rattle.change_model.specs.Plans.{Plan, changed}
-use Rattle.change_model.specs.PlanRules.{is_constant_fate}
 use Rattle.change_model.specs.Sweeping.{IsSwept}
 use Rattle.change_model.proofs.ChangedDefinitions.{is_left, same_there, level_defined, written_defined, gone_defined, never_defined}
-use Rattle.change_model.proofs.ChangedPlaces.{place_left, rises, level_there}
+use Rattle.change_model.proofs.ChangedPlaces.{place_left, level_there}
 use Rattle.change_model.proofs.ChangedShapes.{shapes_changed}
 use Rattle.change_model.proofs.DroppedReduced.{first, second, both, none_some, place_holds}
 use Rattle.change_model.proofs.ChangedPrograms.{decorations_changed}
 use Rattle.change_model.proofs.FunctionPlaces.{all_filtered}
 use Rattle.change_model.proofs.MovedUp.{function_is}
 use Rattle.change_model.proofs.Planned.{Planned}
-use Rattle.change_model.proofs.PlanRuns.{IsLevelId}
-use Rattle.change_model.proofs.PlanRunsLevel.{scalar_level}
 use Rattle.change_model.proofs.PlanRunsSetting.{planned, leaves_program}
 use Rattle.change_model.proofs.SameFacts.{TellsTypes, same_told}
 use Rattle.change_model.proofs.SpecializedLeft.{specialized_left}
-use Rattle.change_model.proofs.SweptPlaces.{stays_written, first_left, first_within, first_stays, first_new, kept_at_left, new_behind, SweptFrom, SweptTo, swept_from, swept_to, swept_rises, swept_apart}
-use Rattle.change_model.proofs.SweptPlans.{IsFixed, label_fixed, selection_fixed, fixed_stays, swept_is_plan}
+use Rattle.change_model.proofs.SweptPlaces.{stays_written, kept_at_left, new_behind, SweptFrom, swept_from}
+use Rattle.change_model.proofs.SweptPlans.{swept_is_plan}
 
 null_tells : TellsTypes null_scalar
 null_tells = record { constant = λ type. refl; variable = λ type class. refl; value = λ type. refl; label = refl; other = refl }

@@ -1,7 +1,7 @@
 -- A load that stays where a function is swept, and variables and constants dropped, still reads the variable that it read.
-use Rattle.std.proofs.Common.{◌≡◌, ℕ, zero, suc, ◌+◌, ◌<◌, ◌≤◌, ◌==◌, ◌⊎◌, if◌then◌else◌, inl, inr, Bool, true, false, List, [], ◌∷◌, length, refl, ap, sym, ◌∙◌, arith, Option, None, Some, is_some}
+use Rattle.std.proofs.Common.{◌≡◌, ℕ, ◌==◌, if◌then◌else◌, inl, inr, Bool, true, false, List, [], ◌∷◌, refl, ap, ◌∙◌, arith, Option, None, Some, is_some}
 use Rattle.std.specs.Option.{option_map}
-use Rattle.std.proofs.lemmas.Bool.{cases_lt, eqb-true, eq-eqb}
+use Rattle.std.proofs.lemmas.Bool.{cases_lt, eq-eqb}
 use Rattle.spirv_model.specs.declared.module.Inst.{Inst}
 use Rattle.spirv_model.specs.declared.module.Words.{Words}
 use Rattle.spirv_model.specs.declared.op.TheConstants as op
@@ -11,10 +11,9 @@ use Rattle.valid_model.specs.Definitions.{definition, inst_at}
 use Rattle.check_model.specs.Validity.{IsValidList}
 use Rattle.typed_model.proofs.EffectsRun.{instruction}
 use Rattle.typed_model.proofs.PlainRuns.{at_op}
-use Rattle.typed_model.proofs.ValidModules.{valid_sound}
 use Rattle.typed_model.proofs.ValidTypes.{defined_within}
 use Rattle.change_model.specs.declared.fate.Fate.TheVariants.{Stays}
-use Rattle.change_model.specs.Dropping.{dropped, MayDrop}
+use Rattle.change_model.specs.Dropping.{dropped}
 use Rattle.change_model.specs.Plans.{Plan, changed}
 use Rattle.change_model.specs.PlanRules.{root_of}
 use Rattle.change_model.specs.Sweeping.{IsSwept}

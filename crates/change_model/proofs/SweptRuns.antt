@@ -1,5 +1,5 @@
 -- What is swept leaves what was left before, but for outputs that nobody reads.
-use Rattle.std.proofs.Common.{◌≡◌, ℕ, ◌==◌, ◌&&◌, ◌||◌, not, Bool, true, false, List, [], length, ◌<◌, inl, inr, refl, ap, sym, ◌∙◌, Option, None, Some, is_some}
+use Rattle.std.proofs.Common.{◌≡◌, ℕ, ◌==◌, ◌&&◌, ◌||◌, not, Bool, true, false, [], length, ◌<◌, inl, inr, refl, ap, sym, ◌∙◌, Option, None, Some, is_some}
 use Rattle.std.specs.Prelude.{slice_index}
 use Rattle.std.specs.List.{find}
 use Rattle.std.specs.Option.{option_map}
@@ -12,27 +12,26 @@ use Rattle.spirv_model.specs.declared.builtin.TheConstants as builtin
 use Rattle.spirv_model.specs.declared.decoration.TheConstants.{BUILT_IN, LOCATION}
 use Rattle.spirv_model.specs.declared.storage_class.TheConstants as storage_class
 use Rattle.spirv_model.specs.Operands.{word_at}
-use Rattle.valid_model.specs.declared.meaning.Meaning.{Meaning}
 use Rattle.valid_model.specs.DecorationWords.{decoration_of}
 use Rattle.valid_model.specs.Definitions.{inst_at, no_instruction}
 use Rattle.valid_model.specs.Meanings.{meaning}
 use Rattle.valid_model.specs.ModuleFacts.{facts_of}
-use Rattle.valid_model.specs.Variables.{lacks_place, bad_interface}
+use Rattle.valid_model.specs.Variables.{lacks_place}
 use Rattle.check_model.specs.Validity.{IsValidList}
 use Rattle.state_model.specs.declared.parts.SpecValues.{SpecValues}
 use Rattle.state_model.specs.declared.buffers.Buffers.{Buffers}
 use Rattle.stage_model.specs.declared.inputs.Inputs.{Inputs}
 use Rattle.stage_model.specs.Program.{program_of}
-use Rattle.stage_model.specs.Stage.{Outcome, is_number, is_output_with, output_with, stage}
+use Rattle.stage_model.specs.Stage.{Outcome, is_number, is_output_with, stage}
 use Rattle.change_model.specs.Keeping.{given, IsKeptBut, KeepsOutcomeBut}
 use Rattle.change_model.specs.Plans.{Plan, changed}
-use Rattle.change_model.specs.Sweeping.{is_output_of, is_unread_at, is_read_output, IsSwept}
+use Rattle.change_model.specs.Sweeping.{is_output_of, is_unread_at, IsSwept}
 use Rattle.change_model.proofs.PlanRuns.{is_unread_by, is_unread_output}
 use Rattle.change_model.proofs.PlanRunsKeep.{plan_keeps_but}
 use Rattle.change_model.proofs.PlanRunsSetting.{planned, found_in, variable_result}
 use Rattle.change_model.proofs.PlanRunsValues.{own_defined}
 use Rattle.change_model.proofs.PlanValid.{plan_valid}
-use Rattle.change_model.proofs.SlotsThere.{all_three, variable_placed, no_built_in}
+use Rattle.change_model.proofs.SlotsThere.{all_three, variable_placed}
 use Rattle.change_model.proofs.SweptPlans.{swept_is_plan}
 use Rattle.change_model.proofs.VariablesMean.{variable_means}
 

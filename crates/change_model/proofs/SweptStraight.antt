@@ -1,6 +1,6 @@
 -- No branch comes to lead always to one label where what isn't needed is swept out.
-use Rattle.std.proofs.Common.{◌≡◌, ℕ, zero, suc, ◌+◌, ◌-◌, ◌<◌, ◌≤◌, ◌⊎◌, ◌==◌, ◌&&◌, ◌||◌, not, nat_lt, nat_le, if◌then◌else◌, inl, inr, Bool, true, false, List, [], ◌∷◌, length, map, filter, take, refl, ap, sym, ◌∙◌, subst, arith, Option, None, Some}
-use Rattle.std.specs.List.{list_all, list_any, range_with_len}
+use Rattle.std.proofs.Common.{◌≡◌, ℕ, suc, ◌+◌, ◌-◌, ◌<◌, ◌≤◌, ◌⊎◌, ◌==◌, ◌&&◌, ◌||◌, not, nat_lt, nat_le, if◌then◌else◌, inl, inr, Bool, true, false, List, [], ◌∷◌, length, map, filter, refl, ap, sym, ◌∙◌, arith, Option, None, Some}
+use Rattle.std.specs.List.{list_any, range_with_len}
 use Rattle.std.proofs.lemmas.Bool.{cases_lt, lt-ltb, ltb-true, eqb-true, eq-eqb}
 use Rattle.std.proofs.lemmas.Bool.Decides.{nat_tests}
 use Rattle.std.proofs.lemmas.List.{take_all}
@@ -9,7 +9,7 @@ use Rattle.spirv_model.specs.declared.module.Words.{Words}
 use Rattle.spirv_model.specs.declared.op.TheConstants as op
 use Rattle.spirv_model.specs.Operands.{word_at, entry_of, class_of}
 use Rattle.scalar_model.specs.declared.scalar_value.Scalar.{Scalar}
-use Rattle.body_model.specs.Classes.{is_plain_class, is_plain, is_terminator_class, is_terminator}
+use Rattle.body_model.specs.Classes.{is_plain, is_terminator}
 use Rattle.body_model.specs.Grammar.{Derives}
 use Rattle.body_model.specs.Switches.{is_among}
 use Rattle.body_model.specs.Targets.{targets}
@@ -19,7 +19,6 @@ use Rattle.check_model.specs.Validity.{IsValidList}
 use Rattle.check_model.proofs.CodeIntervals.{one_intervals}
 use Rattle.typed_model.proofs.BlockParts.{another, clash}
 use Rattle.unit_model.specs.ConstantScalars.{constant_scalar, is_constant_scalar, is_behind, chooses_constantly, is_merge_of_loop, chosen_target, is_to_merge_of_loop, leaves_at_once, begins_at, is_nested, is_left_to, is_left_from_within, switches_constantly, is_straightened}
-use Rattle.change_model.specs.declared.fate.Fate.{Fate}
 use Rattle.change_model.specs.declared.fate.Fate.TheVariants as fate
 use Rattle.change_model.specs.Plans.{Plan, is_dead, changed}
 use Rattle.change_model.specs.PlanRules.{goes_to_begin, is_arm_of, is_skipped, is_condition_left, is_joined, remains, intervals_left}
@@ -37,14 +36,14 @@ use Rattle.change_model.proofs.IntervalBounds.{IsStop, IsBounded, AreBounded, in
 use Rattle.change_model.proofs.ConditionNames.{inside_at}
 use Rattle.change_model.proofs.MovedUp.{function_is}
 use Rattle.change_model.proofs.LeftIntervals.{moved}
-use Rattle.change_model.proofs.FoundMerges.{PlaceOf, place_of}
+use Rattle.change_model.proofs.FoundMerges.{place_of}
 use Rattle.change_model.proofs.LeftChosen.{any_of_range}
 use Rattle.change_model.proofs.LeftLeaves.{named_terminator}
 use Rattle.change_model.proofs.PlanRunsSilent.{straight_by}
 use Rattle.body_model.proofs.Forward.{forward}
 use Rattle.change_model.proofs.FoundUses.{StandsInside, label_inside, switch_inside, stands_inside}
-use Rattle.change_model.proofs.SweptPlaces.{stays_written, first_left, first_within, first_stays, first_new, SweptFrom, SweptTo, swept_from, swept_to, swept_rises, swept_apart}
-use Rattle.change_model.proofs.SweptPlans.{IsFixed, label_fixed, selection_fixed, fixed_stays, never_dead, swept_is_plan}
+use Rattle.change_model.proofs.SweptPlaces.{stays_written, first_left, first_within, first_stays, first_new, SweptFrom, swept_from, swept_to, swept_rises, swept_apart}
+use Rattle.change_model.proofs.SweptPlans.{label_fixed, selection_fixed, fixed_stays, never_dead, swept_is_plan}
 use Rattle.change_model.proofs.SweptReduced.{specialized_swept, constant_was, scalar_was, places_fail, folded_swept, fed_swept}
 
 both_ways : (a b : Bool) → (a ≡ true → b ≡ true) → (b ≡ true → a ≡ true) → a ≡ b

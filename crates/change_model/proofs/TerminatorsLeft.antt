@@ -1,10 +1,10 @@
 -- What is written for a terminator is one, and leads where the old one still does; nothing else that is written leads anywhere.
-use Rattle.std.proofs.Common.{◌≡◌, ℕ, ◌+◌, ◌<◌, ◌≤◌, ◌⊎◌, inl, inr, Bool, true, false, ◌==◌, ◌||◌, if◌then◌else◌, List, [], ◌∷◌, map, slice_index, refl, ap, sym, ◌∙◌, subst, arith, Option, None, Some}
+use Rattle.std.proofs.Common.{◌≡◌, ℕ, ◌+◌, ◌<◌, ◌≤◌, ◌⊎◌, inl, inr, Bool, true, false, ◌==◌, ◌||◌, List, [], ◌∷◌, slice_index, refl, ap, sym, ◌∙◌, arith}
 use Rattle.std.proofs.lemmas.Bool.{cases_lt, eqb-true}
 use Rattle.spirv_model.specs.declared.module.Inst.{Inst}
 use Rattle.spirv_model.specs.declared.module.Words.{Words}
 use Rattle.spirv_model.specs.declared.op.TheConstants as op
-use Rattle.spirv_model.specs.Operands.{word_at, entry_of, class_of}
+use Rattle.spirv_model.specs.Operands.{word_at}
 use Rattle.body_model.specs.Classes.{is_plain, is_terminator}
 use Rattle.body_model.specs.Switches.{is_among, targets_of}
 use Rattle.body_model.specs.Targets.{targets_by, targets}
@@ -19,7 +19,7 @@ use Rattle.change_model.specs.Plans.{Plan, is_dead, targets_left, leads_from, ke
 use Rattle.change_model.specs.PlanRules.{FateFits, IsPlan}
 use Rattle.change_model.proofs.LeftBlocks.{is_inner}
 use Rattle.change_model.proofs.LeftCases.{among_first, among_second}
-use Rattle.change_model.proofs.LeftFates.{Outer, goes_away, stays, goes, picks, skips, outer, goes_op, kept_op}
+use Rattle.change_model.proofs.LeftFates.{Outer, stays, goes, picks, skips, outer, goes_op, kept_op}
 use Rattle.change_model.proofs.LeftNames.{kept_word}
 use Rattle.change_model.proofs.LeftSwitchWords.{kept_switch}
 use Rattle.change_model.proofs.LeftTargets.{target_named}

@@ -1,13 +1,12 @@
 -- What an instruction uses is among the ids that it names.
-use Rattle.std.proofs.Common.{◌≡◌, ℕ, Bool, true, false, ◌==◌, ◌||◌, ◌%◌, if◌then◌else◌, List, [], ◌∷◌, length, map, refl, ap, sym, ◌∙◌, inl, inr, Option, None, Some, is_some}
+use Rattle.std.proofs.Common.{◌≡◌, ℕ, Bool, true, false, ◌==◌, ◌||◌, ◌%◌, if◌then◌else◌, List, [], ◌∷◌, length, map, refl, ap, inl, inr, Option, None, Some, is_some}
 use Rattle.std.specs.Option.{option_map}
-use Rattle.std.proofs.lemmas.Bool.{eq-eqb, eqb-true}
+use Rattle.std.proofs.lemmas.Bool.{eq-eqb}
 use Rattle.spirv_model.specs.declared.module.Inst.{Inst}
 use Rattle.spirv_model.specs.declared.op.TheConstants as op
 use Rattle.spirv_model.specs.declared.table.Operand.{Operand}
 use Rattle.spirv_model.specs.declared.table.Operand.TheVariants.{IdResultType, IdResult, IdRef, LiteralInteger, Fixed, LiteralString}
-use Rattle.spirv_model.specs.declared.table.Rest.{Rest}
-use Rattle.spirv_model.specs.Operands.{word_at, ids_among, ids_by, entry_of, class_of, kinds_in, kinds, ids}
+use Rattle.spirv_model.specs.Operands.{word_at, ids_among, ids_by, entry_of, class_of, kinds, ids}
 use Rattle.body_model.specs.Switches.{is_among}
 use Rattle.check_model.specs.Visibility.{Incoming, incoming_in, incoming, uses_operands, used_among, used_by, is_choice, used_ids}
 use Rattle.typed_model.proofs.EffectsRun.{instruction}

@@ -1,5 +1,5 @@
 -- What is asked of modules that are pruned: no result is left in them that isn't used, and no output that nobody reads.
-use Rattle.std.specs.Prelude.{◌≡◌, ℕ, ◌≤◌, Bool, true, false, not, List, [], length, slice_index_or, is_some, Option, None, Some}
+use Rattle.std.specs.Prelude.{◌≡◌, ℕ, ◌≤◌, Bool, true, false, not, List, length, slice_index_or, is_some, Option, None, Some}
 use Rattle.spirv_model.specs.declared.module.Inst.{Inst}
 use Rattle.spirv_model.specs.declared.module.Words.{Words}
 use Rattle.spirv_model.specs.Module.{module_words}
